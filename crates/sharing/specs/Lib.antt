@@ -1,0 +1,9 @@
+pub mod Faults
+pub mod Weights
+pub mod Question
+pub mod Laws
+pub mod Amounts
+pub mod Prefixes
+pub mod Turns
+pub mod Consequences
+pub mod Named
