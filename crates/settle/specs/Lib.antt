@@ -1,1 +1,4 @@
+pub mod Grammar
 pub mod Reply
+pub mod Tallies
+pub mod Lines

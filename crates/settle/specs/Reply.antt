@@ -1,13 +1,26 @@
--- What the desk answers to a question of sharing.
+-- What the desk answers, and how it counts the answer.
+use mathlib.Core.Path.{_≡_}
+use mathlib.Core.Bool.{true, false}
 use mathlib.Core.List.{List}
+use mathlib.Core.Logic.{_⊎_}
 use Prim.Native.Nat.{ℕ}
 use lib.IntN.{ℤ}
+use Rattle.std.specs.Of.Vec.{vec-items}
+use Rattle.std.specs.declared.option.Option.{Option}
+use Rattle.std.specs.declared.option.Option.the-variants.{Some, None}
 use Rattle.std.specs.declared.result.Result.{Result}
 use Rattle.std.specs.declared.result.Result.the-variants.{Ok, Err}
 use Rattle.sharing.specs.Named.{shares-by, most-by}
 use Rattle.sharing.specs.Question.{judged}
 use Rattle.sharing.specs.declared.fault.ShareFault.{ShareFault}
 use Rattle.sharing.specs.declared.rule.named.NamedRule.{NamedRule}
+use Rattle.settle.specs.Grammar.{skipped, LineAsks, LineWrong}
+use Rattle.settle.specs.Tallies.{with-shares, with-refusal, with-unread}
+use Rattle.settle.specs.declared.answer.Answer.{Answer}
+use Rattle.settle.specs.declared.answer.Answer.the-variants.{Shares, Refused, Report as ReportOf, Error}
+use Rattle.settle.specs.declared.command.Command.{Command}
+use Rattle.settle.specs.declared.command.Command.the-variants.{Share, Report}
+use Rattle.settle.specs.declared.tally.Tally.{Tally}
 
 abbrev pub given : Result ℕ ShareFault → List ℤ → Result (List ℤ) ShareFault
 given (Ok w) shares = Ok shares
@@ -16,3 +29,37 @@ given (Err f) shares = Err f
 -- the shares by the rule, or the first fault of the question, asked with `room` places for the shares
 abbrev pub reply : NamedRule → ℕ → ℤ → List ℕ → Result (List ℤ) ShareFault
 reply rule room total ws = given (judged (most-by rule) room total ws) (shares-by rule total ws)
+
+-- a question of sharing is answered with the reply, and counted
+abbrev pub DoneShare : Tally → NamedRule → ℕ → ℤ → List ℕ → Answer → Tally → Type 0
+DoneShare before rule room total ws (Shares shares) after =
+    (Ok (vec-items shares) ≡ reply rule room total ws) × (after ≡ with-shares before total (vec-items shares))
+DoneShare before rule room total ws (Refused f) after = (Err f ≡ reply rule room total ws) × (after ≡ with-refusal before)
+DoneShare before rule room total ws (ReportOf tally) after = ⊥
+DoneShare before rule room total ws (Error line unread) after = ⊥
+
+-- a report is the tally, which it leaves as it was
+abbrev pub DoneReport : Tally → Answer → Tally → Type 0
+DoneReport before (Shares shares) after = ⊥
+DoneReport before (Refused f) after = ⊥
+DoneReport before (ReportOf tally) after = (tally ≡ before) × (after ≡ before)
+DoneReport before (Error line unread) after = ⊥
+
+-- what came of a command that was read: its answer, and the tally before and after
+abbrev pub Done : Tally → Command → Answer → Tally → Type 0
+Done before (Share rule room total weights) answer after = DoneShare before rule room total (vec-items weights) answer after
+Done before Report answer after = DoneReport before answer after
+
+-- an error names its line and what is wrong with it, and is counted
+abbrev pub Erred : ℕ → List ℕ → Tally → Answer → Tally → Type 0
+Erred number line before (Shares shares) after = ⊥
+Erred number line before (Refused f) after = ⊥
+Erred number line before (ReportOf tally) after = ⊥
+Erred number line before (Error n unread) after = (n ≡ number) × LineWrong line unread × (after ≡ with-unread before)
+
+-- what came of a line: nothing, where it is skipped; or the command that it asks for was done; or it is an error
+abbrev pub Answered : ℕ → List ℕ → Tally → Option Answer → Tally → Type 0
+Answered number line before None after = (skipped line ≡ true) × (after ≡ before)
+Answered number line before (Some answer) after =
+    (skipped line ≡ false)
+    × (((command : Command) × LineAsks line command × Done before command answer after) ⊎ Erred number line before answer after)

@@ -1,4 +1,16 @@
 //! The command language: fields separated by single spaces, the first of them the command's name.
+ghost use mathlib.Core.List.{List, []};
+ghost use mathlib.Core.Path.{_≡_};
+ghost use Prim.Native.Nat.{ℕ, _<_, _≤_};
+ghost use lib.Chars.{codes};
+ghost use lib.ListN.{length, getD};
+ghost use Rattle.std.specs.Of.Vec.{vec-items};
+ghost use Rattle.std.specs.Pieces.{rejoined};
+ghost use Rattle.std.specs.Results.{Cases};
+ghost use Rattle.std.specs.Vec.{made};
+ghost use Rattle.std.specs.declared.result.Result.the-variants.{Ok, Err};
+ghost use Rattle.settle.specs.Grammar.{texts, name-of, Asks, Unsuited, Wrong};
+ghost use Rattle.settle.specs.declared.command.Unread.the-variants.{NoMemory};
 use sharing::NamedRule;
 use std::alloc::AllocError;
 use std::alloc::Global;
@@ -17,12 +29,13 @@ pub enum Command {
         weights: Vec<u32>,
     },
     /// `tally`
-    Tally,
+    Report,
 }
 
 /// A field of a command.
 #[derive(Clone, Copy)]
 pub enum Field {
+    Command,
     Rule,
     Room,
     Total,
@@ -32,6 +45,7 @@ pub enum Field {
 pub impl fmt::Display for Field as FieldDisplay {
     fn fmt<W: fmt::Write>(&self, f: &mut fmt::Formatter<W>) -> fmt::Result {
         let name = match self {
+            Field::Command => "COMMAND",
             Field::Rule => "RULE",
             Field::Room => "ROOM",
             Field::Total => "TOTAL",
@@ -45,7 +59,6 @@ pub impl fmt::Display for Field as FieldDisplay {
 #[derive(Drop)]
 pub enum Unread {
     NotText,
-    UnknownCommand,
     Missing { at: usize, field: Field },
     Malformed { at: usize, field: Field },
     Surplus { at: usize },
@@ -58,12 +71,16 @@ fn place(at: usize) -> usize {
 }
 
 pub impl From<AllocError> for Unread as UnreadFromAlloc {
+    ghost converts = { λ _ r. r ≡ NoMemory };
+
     fn from(_e: AllocError) -> Unread {
         Unread::NoMemory
     }
 }
 
 pub impl<T: Drop> From<Refused<T>> for Unread as UnreadFromRefused {
+    ghost converts = { λ _ r. r ≡ NoMemory };
+
     fn from(_e: Refused<T>) -> Unread {
         Unread::NoMemory
     }
@@ -73,10 +90,10 @@ pub impl fmt::Display for Unread as UnreadDisplay {
     fn fmt<W: fmt::Write>(&self, f: &mut fmt::Formatter<W>) -> fmt::Result {
         match self {
             Unread::NotText => f.write_str("not UTF-8 text"),
-            Unread::UnknownCommand => f.write_str("field 1: no such command"),
             Unread::Missing { at, field } => write!(f, "field {}: {field} is missing", place(*at)),
             Unread::Malformed { at, field } => {
                 let expected = match field {
+                    Field::Command => "share or tally",
                     Field::Rule => "running or in-turn",
                     Field::Room => "an unsigned 64-bit number",
                     Field::Total => "a signed 64-bit number",
@@ -91,24 +108,43 @@ pub impl fmt::Display for Unread as UnreadDisplay {
 }
 
 /// Reads one line, without its line end.
-pub fn read_command(heap: Global, line: &str) -> Result<Command, Unread> {
-    let fields: Vec<&str> = line.split(' ').collect(heap)?;
-    let fields = fields.as_slice();
-    match fields.first().copied().unwrap_or("") {
+pub fn read_command(heap: Global, line: &str) -> Result<Command, Unread>
+    ensures { λ r. ⌜ Cases r (λ c. (fields : List (List ℕ)) × (rejoined 32 fields ≡ now (line .entry)) × Asks fields c) (λ u. (fields : List (List ℕ)) × (rejoined 32 fields ≡ now (line .entry)) × Wrong fields u) ⌝ }
+{
+    let fields = split_fields(heap, line)?;
+    read_fields(heap, fields.as_slice())
+}
+
+fn split_fields<'a>(heap: Global, line: &'a str) -> Result<Vec<&'a str>, AllocError>
+    ensures { λ r. ⌜ made r (λ v. rejoined 32 (texts (vec-items v)) ≡ now (line .entry)) ⌝ }
+{
+    line.split(' ').collect(heap)
+}
+
+fn read_fields(heap: Global, fields: &[&str]) -> Result<Command, Unread>
+    ensures { λ r. ⌜ Cases r (λ c. Asks (texts (now (fields .entry))) c) (λ u. Wrong (texts (now (fields .entry))) u) ⌝ }
+{
+    let field = Field::Command;
+    match field_text(fields, 0, field)? {
         "share" => read_share(heap, fields),
-        "tally" => read_bare(Command::Tally, fields),
-        _ => Err(Unread::UnknownCommand),
+        "tally" => read_bare(Command::Report, fields),
+        _ => Err(Unread::Malformed { at: 0, field }),
     }
 }
 
-fn read_bare(command: Command, fields: &[&str]) -> Result<Command, Unread> {
+/// A command that has no fields but its name.
+fn read_bare(command: Command, fields: &[&str]) -> Result<Command, Unread>
+    ensures { λ r. ⌜ Cases r (λ c. (c ≡ command) × (length (now (fields .entry)) ≤ 1)) (λ u. Wrong (texts (now (fields .entry))) u) ⌝ }
+{
     if fields.len() > 1 {
         return Err(Unread::Surplus { at: 1 });
     }
     Ok(command)
 }
 
-fn read_share(heap: Global, fields: &[&str]) -> Result<Command, Unread> {
+fn read_share(heap: Global, fields: &[&str]) -> Result<Command, Unread>
+    ensures { λ r. ⌜ Cases r (λ c. getD (texts (now (fields .entry))) 0 [] ≡ codes "share" → Asks (texts (now (fields .entry))) c) (λ u. Wrong (texts (now (fields .entry))) u) ⌝ }
+{
     let rule = read_rule(fields, 1)?;
     let room = read_number(fields, 2, Field::Room)?;
     let total = read_number(fields, 3, Field::Total)?;
@@ -124,25 +160,34 @@ fn read_share(heap: Global, fields: &[&str]) -> Result<Command, Unread> {
     })
 }
 
-fn read_rule(fields: &[&str], at: usize) -> Result<NamedRule, Unread> {
+fn read_rule(fields: &[&str], at: usize) -> Result<NamedRule, Unread>
+    ensures { λ r. ⌜ Cases r (λ rule. (at < length (now (fields .entry))) × (getD (texts (now (fields .entry))) at [] ≡ name-of rule)) (λ u. Wrong (texts (now (fields .entry))) u) ⌝ }
+{
     let field = Field::Rule;
-    match fields.get(at) {
-        None => Err(Unread::Missing { at, field }),
-        Some(&"running") => Ok(NamedRule::Running),
-        Some(&"in-turn") => Ok(NamedRule::InTurn),
-        Some(_) => Err(Unread::Malformed { at, field }),
+    match field_text(fields, at, field)? {
+        "running" => Ok(NamedRule::Running),
+        "in-turn" => Ok(NamedRule::InTurn),
+        _ => Err(Unread::Malformed { at, field }),
     }
 }
 
 fn read_number<N: FromStr>(fields: &[&str], at: usize, field: Field) -> Result<N, Unread>
 where
     N::Err: Drop,
+    requires { ⌜ ((text : List ℕ) (e : N·Err) → N·FromStr .reads text (Err e) → Unsuited field text) ⌝ }
+    ensures { λ r. ⌜ Cases r (λ n. (at < length (now (fields .entry))) × N·FromStr .reads (getD (texts (now (fields .entry))) at []) (Ok n)) (λ u. Wrong (texts (now (fields .entry))) u) ⌝ }
 {
-    let Some(text) = fields.get(at) else {
-        return Err(Unread::Missing { at, field });
-    };
-    match text.parse::<N>() {
+    match field_text(fields, at, field)?.parse::<N>() {
         Ok(number) => Ok(number),
         Err(_) => Err(Unread::Malformed { at, field }),
+    }
+}
+
+fn field_text<'a>(fields: &[&'a str], at: usize, field: Field) -> Result<&'a str, Unread>
+    ensures { λ r. ⌜ Cases r (λ text. (at < length (now (fields .entry))) × (now text ≡ getD (texts (now (fields .entry))) at [])) (λ u. Wrong (texts (now (fields .entry))) u) ⌝ }
+{
+    match fields.get(at) {
+        Some(text) => Ok(*text),
+        None => Err(Unread::Missing { at, field }),
     }
 }

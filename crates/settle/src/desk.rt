@@ -4,11 +4,11 @@ ghost use Rattle.std.specs.Of.Vec.{vec-items};
 ghost use Rattle.std.specs.Results.{Cases};
 ghost use Rattle.std.specs.Vec.{made};
 ghost use Rattle.std.specs.declared.result.Result.the-variants.{Ok, Err};
-ghost use Rattle.settle.specs.Reply.{reply};
+ghost use Rattle.settle.specs.Grammar.{blank, skipped, LineAsks, LineWrong};
+ghost use Rattle.settle.specs.Reply.{reply, Done, Answered};
 use crate::answer::Answer;
 use crate::command::Command;
 use crate::command::Unread;
-use crate::command::UnreadFromAlloc;
 use crate::command::read_command;
 use crate::tally::Tally;
 use sharing::NamedRule;
@@ -26,18 +26,13 @@ pub fn answer_line(
     tally: &mut Tally,
     number: u64,
     bytes: &[u8],
-) -> Result<Option<Answer>, AllocError> {
-    let command = match from_utf8(bytes) {
-        Ok(text) => {
-            let text = text.trim_end_matches(['\r', '\n']);
-            if text.trim().is_empty() || text.starts_with('#') {
-                return Ok(None);
-            }
-            read_command(heap, text)
-        }
-        Err(_) => Err(Unread::NotText),
-    };
-    match command {
+) -> Result<Option<Answer>, AllocError>
+    ensures { λ r. ⌜ made r (λ answer. Answered number (now (bytes .entry)) (now (tally .entry)) answer (now (tally .exit))) ⌝ }
+{
+    if is_skipped(bytes) {
+        return Ok(None);
+    }
+    match read_line(heap, bytes) {
         Ok(command) => Ok(Some(carry_out(heap, tally, command)?)),
         Err(unread) => {
             tally.note_unread();
@@ -49,7 +44,41 @@ pub fn answer_line(
     }
 }
 
-fn carry_out(heap: Global, tally: &mut Tally, command: Command) -> Result<Answer, AllocError> {
+/// A comment or a blank line.
+fn is_skipped(line: &[u8]) -> bool
+    ensures { λ r. ⌜ r ≡ skipped (now (line .entry)) ⌝ }
+{
+    if line.len() > 0 && line[0] == b'#' {
+        return true;
+    }
+    is_blank(line)
+}
+
+fn is_blank(line: &[u8]) -> bool
+    ensures { λ r. ⌜ r ≡ blank (now (line .entry)) ⌝ }
+{
+    for byte in line {
+        if !byte.is_ascii_whitespace() {
+            return false;
+        }
+    }
+    true
+}
+
+/// What a line asks for, or why it is no command.
+fn read_line(heap: Global, bytes: &[u8]) -> Result<Command, Unread>
+    ensures { λ r. ⌜ Cases r (λ c. LineAsks (now (bytes .entry)) c) (λ u. LineWrong (now (bytes .entry)) u) ⌝ }
+{
+    match from_utf8(bytes) {
+        Ok(text) => read_command(heap, text.trim_end_matches(['\r', '\n'])),
+        Err(_) => Err(Unread::NotText),
+    }
+}
+
+/// Does what the command asks for.
+fn carry_out(heap: Global, tally: &mut Tally, command: Command) -> Result<Answer, AllocError>
+    ensures { λ r. ⌜ made r (λ a. Done (now (tally .entry)) command a (now (tally .exit))) ⌝ }
+{
     match command {
         Command::Share {
             rule,
@@ -66,7 +95,7 @@ fn carry_out(heap: Global, tally: &mut Tally, command: Command) -> Result<Answer
                 Ok(Answer::Refused(fault))
             }
         },
-        Command::Tally => Ok(Answer::Tally(*tally)),
+        Command::Report => Ok(Answer::Report(*tally)),
     }
 }
 

@@ -4,7 +4,7 @@ mod command;
 mod desk;
 mod tally;
 
-use answer::AnswerDisplay;
+use answer::answer_text;
 use desk::answer_line;
 use std::error::AnyError;
 use std::io::BufRead;
@@ -22,7 +22,7 @@ fn main(rt: LibcRuntime) -> Result<(), AnyError> {
             break;
         }
         if let Some(answer) = answer_line(heap, &mut tally, number, line.as_slice())? {
-            println!(rt, "{answer}")?;
+            rt.println(answer_text(heap, &answer)?)?;
         }
     }
     Ok(())

@@ -1,9 +1,12 @@
 //! What the desk has done so far.
+ghost use mathlib.Core.Path.{_≡_};
+ghost use Rattle.sharing.specs.Laws.{sumℤ};
+ghost use Rattle.settle.specs.Tallies.{nothing-done, with-shares, with-refusal, with-unread};
 
 /// Counts of answers, and the sums of the totals that were shared and of their shares.
 #[derive(Clone, Copy)]
 pub struct Tally {
-    pub accepted: u64,
+    pub shared: u64,
     pub refused: u64,
     pub unread: u64,
     pub totals: i128,
@@ -11,9 +14,11 @@ pub struct Tally {
 }
 
 impl Tally {
-    pub fn new() -> Tally {
+    pub fn new() -> Tally
+        ensures { λ r. ⌜ r ≡ nothing-done ⌝ }
+    {
         Tally {
-            accepted: 0,
+            shared: 0,
             refused: 0,
             unread: 0,
             totals: 0,
@@ -21,19 +26,34 @@ impl Tally {
         }
     }
 
-    pub fn note_shares(&mut self, total: i64, shares: &[i64]) {
-        self.accepted = self.accepted.saturating_add(1);
+    pub fn note_shares(&mut self, total: i64, shares: &[i64])
+        ensures { λ _. ⌜ now (self .exit) ≡ with-shares (now (self .entry)) total (now (shares .entry)) ⌝ }
+    {
+        self.shared = self.shared.saturating_add(1);
         self.totals = self.totals.saturating_add(i128::from(total));
-        for share in shares {
-            self.shares = self.shares.saturating_add(i128::from(*share));
-        }
+        self.shares = self.shares.saturating_add(sum_cents(shares));
     }
 
-    pub fn note_refusal(&mut self) {
+    pub fn note_refusal(&mut self)
+        ensures { λ _. ⌜ now (self .exit) ≡ with-refusal (now (self .entry)) ⌝ }
+    {
         self.refused = self.refused.saturating_add(1);
     }
 
-    pub fn note_unread(&mut self) {
+    pub fn note_unread(&mut self)
+        ensures { λ _. ⌜ now (self .exit) ≡ with-unread (now (self .entry)) ⌝ }
+    {
         self.unread = self.unread.saturating_add(1);
     }
+}
+
+/// A slice has fewer than 2^64 amounts of 64 bits, so 128 bits hold their sum.
+fn sum_cents(amounts: &[i64]) -> i128
+    ensures { λ r. ⌜ r ≡ sumℤ (now (amounts .entry)) ⌝ }
+{
+    let mut sum: i128 = 0;
+    for amount in amounts {
+        sum += i128::from(*amount);
+    }
+    sum
 }

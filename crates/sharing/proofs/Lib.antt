@@ -7,3 +7,4 @@ pub mod OfRunning
 pub mod OfInTurn
 pub mod OfLaws
 pub mod OfNamed
+pub mod Summing

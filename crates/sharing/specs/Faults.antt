@@ -1,7 +1,9 @@
--- Number, place and layer of each fault of a question.
+-- Number, place and layer of each fault of a question, and how they are written.
+use mathlib.Core.List.{List}
 use Prim.Native.Nat.{ℕ}
+use lib.Chars.{codes}
 use Rattle.sharing.specs.declared.fault.Layer.{Layer}
-use Rattle.sharing.specs.declared.fault.Layer.the-variants.{Word, File, Call}
+use Rattle.sharing.specs.declared.fault.Layer.the-variants.{Word, Block, File, Book, Call}
 use Rattle.sharing.specs.declared.fault.ShareFault.{ShareFault}
 use Rattle.sharing.specs.declared.fault.ShareFault.the-variants.{NoRoom, TooManyWeights, WeightOverLimit, TotalOverLimit, NoWeight}
 
@@ -26,3 +28,19 @@ layer-of TooManyWeights = File
 layer-of (WeightOverLimit place) = Word
 layer-of TotalOverLimit = File
 layer-of NoWeight = File
+
+-- how a layer is written
+abbrev pub layer-name : Layer → List ℕ
+layer-name Word = codes "word"
+layer-name Block = codes "block"
+layer-name File = codes "file"
+layer-name Book = codes "book"
+layer-name Call = codes "call"
+
+-- a fault in plain words
+abbrev pub reason-of : ShareFault → List ℕ
+reason-of NoRoom = codes "memory for the shares too short"
+reason-of TooManyWeights = codes "more weights than the rule's greatest count"
+reason-of (WeightOverLimit place) = codes "a weight over the limit"
+reason-of TotalOverLimit = codes "the total over the limit"
+reason-of NoWeight = codes "no weight at all for a total that is not zero"

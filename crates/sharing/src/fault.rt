@@ -1,6 +1,7 @@
 //! Why a question is refused, and the engine's layers that refusals belong to.
 ghost use mathlib.Core.Path.{_≡_};
-ghost use Rattle.sharing.specs.Faults.{number-of, place-of, layer-of};
+ghost use Rattle.std.specs.declared.option.Option.the-variants.{Some};
+ghost use Rattle.sharing.specs.Faults.{number-of, place-of, layer-of, layer-name, reason-of};
 use std::fmt;
 
 /// The layer that a refusal comes from. All crates of the engine speak of the same five.
@@ -14,6 +15,8 @@ pub enum Layer {
 }
 
 pub impl fmt::Display for Layer as LayerDisplay {
+    ghost shown = { λ layer. Some (layer-name layer) };
+
     fn fmt<W: fmt::Write>(&self, f: &mut fmt::Formatter<W>) -> fmt::Result {
         let name = match self {
             Layer::Word => "word",
@@ -73,17 +76,25 @@ impl ShareFault {
             ShareFault::NoRoom => Layer::Call,
         }
     }
+
+    /// The fault in plain words.
+    pub fn reason(&self) -> &'static str
+        ensures { λ r. ⌜ now r ≡ reason-of (now (self .entry)) ⌝ }
+    {
+        match self {
+            ShareFault::NoRoom => "memory for the shares too short",
+            ShareFault::TooManyWeights => "more weights than the rule's greatest count",
+            ShareFault::WeightOverLimit { place: _ } => "a weight over the limit",
+            ShareFault::TotalOverLimit => "the total over the limit",
+            ShareFault::NoWeight => "no weight at all for a total that is not zero",
+        }
+    }
 }
 
 pub impl fmt::Display for ShareFault as ShareFaultDisplay {
+    ghost shown = { λ fault. Some (reason-of fault) };
+
     fn fmt<W: fmt::Write>(&self, f: &mut fmt::Formatter<W>) -> fmt::Result {
-        let reason = match self {
-            ShareFault::NoRoom => "memory for the shares too short",
-            ShareFault::TooManyWeights => "more weights than the rule's greatest count",
-            ShareFault::WeightOverLimit { place: _ } => "a weight over 100000000",
-            ShareFault::TotalOverLimit => "the total beyond 1000000000 cents",
-            ShareFault::NoWeight => "all weights are 0, the total is not",
-        };
-        f.write_str(reason)
+        f.write_str(self.reason())
     }
 }

@@ -1,0 +1,89 @@
+-- The command language: what a line's fields ask for.
+use mathlib.Core.Path.{_≡_}
+use mathlib.Core.Bool.{Bool, _||_}
+use mathlib.Core.List.{List, [], _∷_, map}
+use mathlib.Core.Logic.{_⊎_}
+use Prim.Native.Nat.{ℕ, _+_, _^_, _<_, _≤_}
+use denote.Ref.{RefT}
+use lib.Dec.{eqb}
+use lib.Chars.{codes}
+use lib.IntN.{ℤ}
+use lib.ListN.{length, getD, take}
+use Rattle.std.specs.Of.Vec.{vec-items}
+use Rattle.std.specs.Pieces.{rejoined}
+use Rattle.std.specs.Reads.{Numeral, value, afterPlus, afterSign, signedValue}
+use Rattle.std.specs.Text.{Utf8, asciiWhite}
+use Rattle.std.specs.shelf.Lists.{leading}
+use Rattle.sharing.specs.declared.rule.named.NamedRule.{NamedRule}
+use Rattle.sharing.specs.declared.rule.named.NamedRule.the-variants.{Running, InTurn}
+use mir.Syntax.{w64}
+use mir.Val.{SFits}
+use Rattle.settle.specs.declared.command.Field.{Field}
+use Rattle.settle.specs.declared.command.Field.the-variants.{Command as CommandField, Rule as RuleField, Room as RoomField, Total as TotalField, Weight as WeightField}
+use Rattle.settle.specs.declared.command.Unread.{Unread}
+use Rattle.settle.specs.declared.command.Unread.the-variants.{NotText, Missing, Malformed, Surplus, NoMemory}
+use Rattle.settle.specs.declared.command.Command.{Command}
+use Rattle.settle.specs.declared.command.Command.the-variants.{Share, Report}
+
+-- nothing but ASCII white space: tabs, line and form feeds, carriage returns and spaces
+abbrev pub blank : List ℕ → Bool
+blank line = eqb (leading asciiWhite line) (length line)
+
+-- a comment, which begins with #, or a blank line
+abbrev pub skipped : List ℕ → Bool
+skipped line = eqb (getD line 0 0) 35 || blank line
+
+-- the bytes of each field
+abbrev pub texts : List (RefT (List ℕ)) → List (List ℕ)
+texts fields = map (λ f. f .now) fields
+
+abbrev pub name-of : NamedRule → List ℕ
+name-of Running = codes "running"
+name-of InTurn = codes "in-turn"
+
+-- the text writes the number in decimal
+abbrev pub Writes : List ℕ → ℕ → Type 0
+Writes text n = Numeral 10 (afterPlus text) × (n ≡ value 10 (afterPlus text))
+
+abbrev pub WritesSigned : List ℕ → ℤ → Type 0
+WritesSigned text z = Numeral 10 (afterSign text) × (z ≡ signedValue 10 text)
+
+-- share RULE ROOM TOTAL WEIGHT...
+pub record AsksShare (fields : List (List ℕ)) (rule : NamedRule) (room : ℕ) (total : ℤ) (weights : List ℕ) : Type 0 where
+  pub command-field : getD fields 0 [] ≡ codes "share"
+  pub rule-field : getD fields 1 [] ≡ name-of rule
+  pub room-field : Writes (getD fields 2 []) room
+  pub total-field : WritesSigned (getD fields 3 []) total
+  pub no-more-fields : length fields ≡ 4 + length weights
+  pub weight-fields : (k : ℕ) → k < length weights → Writes (getD fields (4 + k) []) (getD weights k 0)
+
+-- the fields of a line that asks for the command
+abbrev pub Asks : List (List ℕ) → Command → Type 0
+Asks fields (Share rule room total weights) = AsksShare fields rule room total (vec-items weights)
+Asks fields Report = fields ≡ codes "tally" ∷ []
+
+-- a line asks for what the fields of a front of it ask for, a space between each two; the line end follows
+abbrev pub LineAsks : List ℕ → Command → Type 0
+LineAsks line command =
+    (n : ℕ) × (fields : List (List ℕ)) × (rejoined 32 fields ≡ take n line) × Asks fields command
+
+-- the text does not suit the field
+abbrev pub Unsuited : Field → List ℕ → Type 0
+Unsuited CommandField text = (text ≡ codes "share" → ⊥) × (text ≡ codes "tally" → ⊥)
+Unsuited RuleField text = (text ≡ codes "running" → ⊥) × (text ≡ codes "in-turn" → ⊥)
+Unsuited RoomField text = (n : ℕ) → Writes text n → n < 2 ^ 64 → ⊥
+Unsuited TotalField text = (z : ℤ) → WritesSigned text z → SFits w64 z → ⊥
+Unsuited WeightField text = (n : ℕ) → Writes text n → n < 2 ^ 32 → ⊥
+
+-- what is wrong with the fields of a line that is no command; want of memory may be
+abbrev pub Wrong : List (List ℕ) → Unread → Type 0
+Wrong fields NotText = ⊥
+Wrong fields (Missing at field) = length fields ≤ at
+Wrong fields (Malformed at field) = (at < length fields) × Unsuited field (getD fields at [])
+Wrong fields (Surplus at) = at < length fields
+Wrong fields NoMemory = Unit {0}
+
+-- the same of a line, or it is no text at all
+abbrev pub LineWrong : List ℕ → Unread → Type 0
+LineWrong line unread =
+    ((unread ≡ NotText) × (Utf8 line → ⊥)) ⊎ ((n : ℕ) × (fields : List (List ℕ)) × (rejoined 32 fields ≡ take n line) × Wrong fields unread)
