@@ -1,11 +1,11 @@
 -- The command language: what a line's fields ask for.
 use mathlib.Core.Path.{_≡_}
-use mathlib.Core.Bool.{Bool, _||_}
+use mathlib.Core.Bool.{Bool, cond, _&&_, _||_}
 use mathlib.Core.List.{List, [], _∷_, map}
 use mathlib.Core.Logic.{_⊎_}
-use Prim.Native.Nat.{ℕ, _+_, _^_, _<_, _≤_}
+use Prim.Native.Nat.{ℕ, _+_, _-_, _^_, _<_, _≤_}
 use denote.Ref.{RefT}
-use lib.Dec.{eqb}
+use lib.Dec.{eqb, ltb}
 use lib.Chars.{codes}
 use lib.IntN.{ℤ}
 use lib.ListN.{length, getD, take}
@@ -62,10 +62,17 @@ abbrev pub Asks : List (List ℕ) → Command → Type 0
 Asks fields (Share rule room total weights) = AsksShare fields rule room total (vec-items weights)
 Asks fields Report = fields ≡ codes "tally" ∷ []
 
--- a line asks for what the fields of a front of it ask for, a space between each two; the line end follows
+-- a line without one byte `end` at its end
+abbrev pub without-last : ℕ → List ℕ → List ℕ
+without-last end line = cond (ltb 0 (length line) && eqb (getD line (length line - 1) 0) end) (take (length line - 1) line) line
+
+-- a line without its end: a line feed, and a carriage return before it
+abbrev pub content : List ℕ → List ℕ
+content line = without-last 13 (without-last 10 line)
+
+-- the fields stand in the line, a space between each two, and ask for the command
 abbrev pub LineAsks : List ℕ → Command → Type 0
-LineAsks line command =
-    (n : ℕ) × (fields : List (List ℕ)) × (rejoined 32 fields ≡ take n line) × Asks fields command
+LineAsks line command = (fields : List (List ℕ)) × (rejoined 32 fields ≡ content line) × Asks fields command
 
 -- the text does not suit the field
 abbrev pub Unsuited : Field → List ℕ → Type 0
@@ -86,4 +93,4 @@ Wrong fields NoMemory = Unit {0}
 -- the same of a line, or it is no text at all
 abbrev pub LineWrong : List ℕ → Unread → Type 0
 LineWrong line unread =
-    ((unread ≡ NotText) × (Utf8 line → ⊥)) ⊎ ((n : ℕ) × (fields : List (List ℕ)) × (rejoined 32 fields ≡ take n line) × Wrong fields unread)
+    ((unread ≡ NotText) × (Utf8 (content line) → ⊥)) ⊎ ((fields : List (List ℕ)) × (rejoined 32 fields ≡ content line) × Wrong fields unread)

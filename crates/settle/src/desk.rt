@@ -4,7 +4,7 @@ ghost use Rattle.std.specs.Of.Vec.{vec-items};
 ghost use Rattle.std.specs.Results.{Cases};
 ghost use Rattle.std.specs.Vec.{made};
 ghost use Rattle.std.specs.declared.result.Result.the-variants.{Ok, Err};
-ghost use Rattle.settle.specs.Grammar.{blank, skipped, LineAsks, LineWrong};
+ghost use Rattle.settle.specs.Grammar.{blank, skipped, without-last, LineAsks, LineWrong};
 ghost use Rattle.settle.specs.Reply.{reply, Done, Answered};
 use crate::answer::Answer;
 use crate::command::Command;
@@ -66,13 +66,23 @@ fn is_blank(line: &[u8]) -> bool
 }
 
 /// What a line asks for, or why it is no command.
-fn read_line(heap: Global, bytes: &[u8]) -> Result<Command, Unread>
-    ensures { λ r. ⌜ Cases r (λ c. LineAsks (now (bytes .entry)) c) (λ u. LineWrong (now (bytes .entry)) u) ⌝ }
+fn read_line(heap: Global, line: &[u8]) -> Result<Command, Unread>
+    ensures { λ r. ⌜ Cases r (λ c. LineAsks (now (line .entry)) c) (λ u. LineWrong (now (line .entry)) u) ⌝ }
 {
-    match from_utf8(bytes) {
-        Ok(text) => read_command(heap, text.trim_end_matches(['\r', '\n'])),
+    match from_utf8(without_last(b'\r', without_last(b'\n', line))) {
+        Ok(text) => read_command(heap, text),
         Err(_) => Err(Unread::NotText),
     }
+}
+
+fn without_last(end: u8, line: &[u8]) -> &[u8]
+    ensures { λ r. ⌜ now r ≡ without-last end (now (line .entry)) ⌝ }
+{
+    let n = line.len();
+    if n > 0 && line[n - 1] == end {
+        return &line[0..n - 1];
+    }
+    line
 }
 
 /// Does what the command asks for.

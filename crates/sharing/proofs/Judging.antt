@@ -3,7 +3,7 @@ use mathlib.Core.Path.{_≡_, refl, sym, ap, subst, _∙_}
 use mathlib.Core.Bool.{Bool, cond, _&&_}
 use mathlib.Core.Logic.{_⊎_, inl, inr}
 use mathlib.Core.List.{List, _++_}
-use Prim.Native.Nat.{ℕ, _<_, _≤_}
+use Prim.Native.Nat.{ℕ, _^_, _<_, _≤_}
 use native.Mathlib.Omega.{arith}
 use lib.Dec.{ltb, eqb}
 use lib.ListN.{length, drop}
@@ -14,12 +14,17 @@ use Rattle.std.specs.declared.result.Result.the-variants.{Ok, Err}
 use Rattle.std.proofs.shelf.Ways.{tells}
 use Rattle.std.proofs.shelf.Tests.{cases-lt, cases-eq}
 use Rattle.sharing.specs.Weights.{before-over}
-use Rattle.sharing.specs.Question.{greatest-total, Accepted, Means, judged, answer, left-in}
+use Rattle.sharing.specs.Question.{greatest-total, Accepted, Refused, judged, answer, left-in}
 use Rattle.sharing.specs.declared.fault.ShareFault.{ShareFault}
 use Rattle.sharing.specs.declared.fault.ShareFault.the-variants.{NoRoom, TooManyWeights, WeightOverLimit, TotalOverLimit, NoWeight}
 use Rattle.sharing.specs.Amounts.{either-sign}
 use Rattle.sharing.proofs.BothSigns.{AmountLaws, length-either-sign}
-use Rattle.sharing.proofs.Weighing.{light-all, first-over}
+use Rattle.sharing.proofs.Weighing.{light-all, light-sum, first-over}
+
+-- what a verdict says of its question
+abbrev pub Means : ℕ → ℕ → ℤ → List ℕ → Result ℕ ShareFault → Type 0
+Means greatest room total ws (Ok w) = (length ws ≤ room) × Accepted greatest total ws × (w ≡ sum ws)
+Means greatest room total ws (Err f) = Refused greatest room total ws f
 
 module _ (g room : ℕ) (t : ℤ) (ws : List ℕ) where
   pub is-no-room : room < length ws → judged g room t ws ≡ Err NoRoom
@@ -93,6 +98,18 @@ module _ (g room : ℕ) (t : ℤ) (ws : List ℕ) where
 
   pub means-of : (r : Result ℕ ShareFault) → r ≡ judged g room t ws → Means g room t ws r
   means-of r e = subst (Means g room t ws) (sym e) judged-means
+
+-- what a rule knows of a question that it accepts, for any greatest count that a `usize` holds
+pub record Admitted (places : ℕ) (t : ℤ) (ws : List ℕ) (w n : ℕ) : Type 0 where
+  pub small : natAbs t ≤ greatest-total
+  pub all : w ≡ sum ws
+  pub bound : w < 2 ^ 96
+  pub room : n ≤ places
+
+pub admitted : (g room : ℕ) (t : ℤ) (ws : List ℕ) (w n : ℕ) → g < 2 ^ 64 → n ≡ length ws → Ok w ≡ judged g room t ws → Admitted room t ws w n
+admitted g room t ws w n h l e =
+    let m = means-of g room t ws (Ok w) e in
+    record { small = m .1 .small; all = m .2; bound = omega (arith, m .2, m .1 .few, light-sum ws (m .1 .light)); room = omega (arith, m .0) }
 
 -- what a rule owes where it judged the question, found no fault and wrote its shares; z is the total as it was passed on
 pub shared : {rule : ℕ → List ℕ → List ℕ} (laws : AmountLaws rule) (g n room len : ℕ) (total z : ℤ) (ws : List ℕ) (w : ℕ) (memory after : List ℤ)

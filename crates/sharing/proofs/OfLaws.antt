@@ -17,10 +17,10 @@ use Rattle.std.proofs.shelf.Sums.{sumBy-cons, getD-le-sumBy}
 use Rattle.std.proofs.shelf.Tests.{cases-lt, cases-eq}
 use Rattle.sharing.specs.Consequences.{Fair}
 use Rattle.sharing.specs.Laws.{sumℤ, Within, Laws}
-use Rattle.sharing.specs.Question.{Accepted, Refused, Means, judged, answer, left-in}
+use Rattle.sharing.specs.Question.{Accepted, Refused, judged, answer, left-in}
 use Rattle.sharing.specs.declared.fault.ShareFault.{ShareFault}
 use Rattle.sharing.proofs.BothSigns.{size-neg}
-use Rattle.sharing.proofs.Judging.{nothing, judged-means}
+use Rattle.sharing.proofs.Judging.{Means, nothing, judged-means}
 
 size-within : (n : ℕ) (a b : ℤ) → Within n a b → natAbs a ≤ natAbs b + n
 size-within n (pos a) (pos b) h = omega (arith, ints, h)

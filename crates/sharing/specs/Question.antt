@@ -34,11 +34,6 @@ Refused greatest room total ws TotalOverLimit =
 Refused greatest room total ws NoWeight =
     (length ws ≤ room) × (length ws ≤ greatest) × Light ws × (natAbs total ≤ greatest-total) × (sum ws ≡ 0) × (0 < natAbs total)
 
--- what an answer says of its question
-abbrev pub Means : ℕ → ℕ → ℤ → List ℕ → Result ℕ ShareFault → Type 0
-Means greatest room total ws (Ok w) = (length ws ≤ room) × Accepted greatest total ws × (w ≡ sum ws)
-Means greatest room total ws (Err f) = Refused greatest room total ws f
-
 -- W of a question that is accepted, or the first fault, in the order in which faults are looked for
 unfoldable pub judged : ℕ → ℕ → ℤ → List ℕ → Result ℕ ShareFault
 judged greatest room total ws =

@@ -12,7 +12,7 @@ ghost use lib.ListN.{length, take};
 ghost use Rattle.std.specs.Results.{Cases};
 ghost use Rattle.sharing.specs.Consequences.{Fair};
 ghost use Rattle.sharing.specs.Laws.{Laws};
-ghost use Rattle.sharing.specs.Question.{judged, Means, Refused, answer, left-in};
+ghost use Rattle.sharing.specs.Question.{judged, Refused, answer, left-in};
 use crate::fault::ShareFault;
 use crate::weight::Weighted;
 use crate::weight::total_weight;

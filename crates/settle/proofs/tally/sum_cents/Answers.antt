@@ -3,19 +3,15 @@ use Prim.Native.Nat.{_*_, _^_, _≤_}
 use native.Mathlib.Omega.{arith}
 use borrow.Author.Differences.{ints}
 use borrow.Author.Needs.{needs}
-use lib.IntN.{ℤ, pos, negsuc, natAbs, _+ℤ_}
+use lib.IntN.{ℤ, pos, natAbs, _+ℤ_}
 use lib.ListN.{length, getD, take}
 use mir.Syntax.{w64, w128}
 use mir.Val.{SFits, toZ, ofZ}
 use Rattle.std.proofs.shelf.Lists.{take-all}
 use Rattle.std.proofs.shelf.Signed.{toZ-ofZ}
 use Rattle.sharing.specs.Laws.{sumℤ}
-use Rattle.sharing.proofs.Summing.{sumℤ-more, size-sum}
+use Rattle.sharing.proofs.Summing.{sumℤ-more, size-sum, size-fits}
 use Rattle.settle.proofs.tally.sum_cents.Needs as need
-
-size-fits : (z : ℤ) → SFits w64 z → natAbs z ≤ 2 ^ 63
-size-fits (pos n) f = omega (arith, f .sfits)
-size-fits (negsuc n) f = omega (arith, f .sfits)
 
 -- the amount that was read, and its size
 read : (c : need.After-from-sum) → (c .from-sum .result ≡ getD (c .args .amounts .now) (c .loop-amount .amount-index) (pos 0)) × (natAbs (c .from-sum .result) ≤ 2 ^ 63)
@@ -23,7 +19,7 @@ read c =
     let x = getD (c .args .amounts .now) (c .loop-amount .amount-index) (pos 0) in
     let f : SFits w64 x = search needs in
     let e : c .from-sum .result ≡ x = c .from-sum .ensures ∙ toZ-ofZ w64 x f in
-    (e, omega (arith, ap natAbs e, size-fits x f))
+    (e, omega (arith, ap natAbs e, size-fits w64 x f))
 
 pub add-sum : need.add-sum
 add-sum c =

@@ -1,22 +1,19 @@
 use mathlib.Core.Path.{_≡_, sym, ap, subst, _∙_}
 use mathlib.Core.List.{map, _++_}
-use native.Mathlib.Omega.{arith}
 use lib.ListN.{length, drop, length-map}
 use mir.Syntax.{w64}
 use Rattle.std.proofs.shelf.Signed.{toZ-ofZ}
 use Rattle.sharing.specs.Amounts.{either-sign}
 use Rattle.sharing.specs.Prefixes.{running, RunningSums}
 use Rattle.sharing.proofs.OfRunning.{running-sums, running-amounts}
-use Rattle.sharing.proofs.Judging.{means-of, shared}
-use Rattle.sharing.proofs.Weighing.{light-sum}
+use Rattle.sharing.proofs.Judging.{admitted, shared}
 use Rattle.sharing.proofs.rule.running.share_running.Needs as need
 
 pub write-running-requires : need.write-running-requires
 write-running-requires g c κs =
-    let ws = map (g .T·Weighted .weight) (c .args .items .now) in
-    let l : length ws ≡ length (c .args .items .now) = length-map (c .args .items .now) (g .T·Weighted .weight) in
-    let m = means-of _ _ _ ws _ (c .in-Continue-all .ensures tt) in
-    record { small = m .1 .small; all = m .2; bound = omega (arith, m, light-sum ws (m .1 .light)); room = omega (arith, m .0) }
+    let l = length-map (c .args .items .now) (g .T·Weighted .weight) in
+    let a = admitted _ _ _ _ _ _ (c .greatest .ok) (sym l) (c .in-Continue-all .ensures tt) in
+    record { small = a .small; all = a .all; bound = a .bound; room = a .room }
 
 pub returns : need.returns
 returns g c =
