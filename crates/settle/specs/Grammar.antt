@@ -14,8 +14,8 @@ use Rattle.std.specs.Pieces.{rejoined}
 use Rattle.std.specs.Reads.{Numeral, value, afterPlus, afterSign, signedValue}
 use Rattle.std.specs.Text.{Utf8, asciiWhite}
 use Rattle.std.specs.shelf.Lists.{leading}
+use Rattle.sharing.specs.Named.{name-of}
 use Rattle.sharing.specs.declared.rule.named.NamedRule.{NamedRule}
-use Rattle.sharing.specs.declared.rule.named.NamedRule.the-variants.{Running, InTurn}
 use mir.Syntax.{w64}
 use mir.Val.{SFits}
 use Rattle.settle.specs.declared.command.Field.{Field}
@@ -36,10 +36,6 @@ skipped line = eqb (getD line 0 0) 35 || blank line
 -- the bytes of each field
 abbrev pub texts : List (RefT (List ℕ)) → List (List ℕ)
 texts fields = map (λ f. f .now) fields
-
-abbrev pub name-of : NamedRule → List ℕ
-name-of Running = codes "running"
-name-of InTurn = codes "in-turn"
 
 -- the text writes the number in decimal
 abbrev pub Writes : List ℕ → ℕ → Type 0

@@ -82,8 +82,8 @@ module _ {shares : ℤ → List ℕ → List ℤ} {greatest : ℕ} (laws : Laws 
     size-times total (getD ws k 0),
   )
 
-  past : (k : ℕ) → length ws ≤ k → natAbs (share k) ≡ 0
-  past k h = ap natAbs (getD-past (shares total ws) k (pos 0) (omega (arith, laws .one-each total ws)))
+  past : (k : ℕ) → length ws ≤ k → share k ≡ pos 0
+  past k h = getD-past (shares total ws) k (pos 0) (omega (arith, laws .one-each total ws))
 
   weightless : (k : ℕ) → k < length ws → getD ws k 0 ≡ 0 → natAbs (share k) ≡ 0
   weightless k h z = ap natAbs (laws .none-for-none total ws a k h z)
@@ -139,8 +139,9 @@ module _ {shares : ℤ → List ℕ → List ℤ} {greatest : ℕ} (laws : Laws 
     adds-up = laws .adds-up total ws a;
     within-a-cent = laws .within-a-cent total ws a;
     none-for-none = laws .none-for-none total ws a;
-    bounded = λ k. elim (cases-lt k (length ws)) [ inl h ↦ bounded-at k h | inr h ↦ omega (arith, past k h) ];
-    bounded-by-marks = λ marks k. elim (cases-lt k (length ws)) [ inl h ↦ marks-at marks k h | inr h ↦ omega (arith, past k h) ];
+    none-of-none = λ z k. elim (cases-lt k (length ws)) [ inl h ↦ nothing-shared z k h | inr h ↦ past k h ];
+    bounded = λ k. elim (cases-lt k (length ws)) [ inl h ↦ bounded-at k h | inr h ↦ omega (arith, ap natAbs (past k h)) ];
+    bounded-by-marks = λ marks k. elim (cases-lt k (length ws)) [ inl h ↦ marks-at marks k h | inr h ↦ omega (arith, ap natAbs (past k h)) ];
   }
 
 -- what an answer to a question says: the shares are fair, or the question has the fault

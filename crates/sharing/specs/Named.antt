@@ -1,6 +1,7 @@
 -- The rules by name.
 use mathlib.Core.List.{List}
 use Prim.Native.Nat.{ℕ}
+use lib.Chars.{codes}
 use lib.IntN.{ℤ}
 use Rattle.sharing.specs.Amounts.{either-sign}
 use Rattle.sharing.specs.Prefixes.{running}
@@ -15,3 +16,7 @@ shares-by InTurn = either-sign in-turn
 abbrev pub most-by : NamedRule → ℕ
 most-by Running = 64
 most-by InTurn = 32
+
+abbrev pub name-of : NamedRule → List ℕ
+name-of Running = codes "running"
+name-of InTurn = codes "in-turn"

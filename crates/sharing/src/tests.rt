@@ -133,6 +133,7 @@ fn leftovers() -> Result<(), Fail> {
     check_eq(out, [0, -1, -2, 0, -2])
 }
 
+/// A sum of weights beyond 32 bits.
 #[test]
 fn long_sum() -> Result<(), Fail> {
     let weights = [100_000_000; 1000];

@@ -1,5 +1,6 @@
 //! The rules by name, for callers that choose one while they run.
-ghost use Rattle.sharing.specs.Named.{shares-by, most-by};
+ghost use Rattle.std.specs.declared.option.Option.the-variants.{Some};
+ghost use Rattle.sharing.specs.Named.{shares-by, most-by, name-of};
 use crate::fault::ShareFault;
 use crate::rule::SharingRule;
 use crate::rule::in_turn;
@@ -43,6 +44,8 @@ pub impl SharingRule for NamedRule as NamedSharing {
 }
 
 pub impl fmt::Display for NamedRule as NamedRuleDisplay {
+    ghost shown = { λ rule. Some (name-of rule) };
+
     fn fmt<W: fmt::Write>(&self, f: &mut fmt::Formatter<W>) -> fmt::Result {
         let name = match self {
             NamedRule::Running => "running",
