@@ -3,7 +3,7 @@ use mathlib.Core.Path.{_≡_}
 use mathlib.Core.Bool.{Bool, cond, _&&_, _||_}
 use mathlib.Core.List.{List, [], _∷_, map}
 use mathlib.Core.Logic.{_⊎_}
-use Prim.Native.Nat.{ℕ, _+_, _-_, _^_, _<_, _≤_}
+use Prim.Native.Nat.{ℕ, zero, suc, _+_, _-_, _^_, _<_, _≤_}
 use denote.Ref.{RefT}
 use lib.Dec.{eqb, ltb}
 use lib.Chars.{codes}
@@ -78,12 +78,29 @@ Unsuited RoomField text = (n : ℕ) → Writes text n → n < 2 ^ 64 → ⊥
 Unsuited TotalField text = (z : ℤ) → WritesSigned text z → SFits w64 z → ⊥
 Unsuited WeightField text = (n : ℕ) → Writes text n → n < 2 ^ 32 → ⊥
 
--- what is wrong with the fields of a line that is no command; want of memory may be
+-- what is wrong with the field that should stand at a place: it is missing, or its text does not suit
+abbrev pub FieldWrong : List (List ℕ) → ℕ → Field → Unread → Type 0
+FieldWrong fields at field NotText = ⊥
+FieldWrong fields at field (Missing n f) = (n ≡ at) × (f ≡ field) × (length fields ≤ at)
+FieldWrong fields at field (Malformed n f) = (n ≡ at) × (f ≡ field) × (at < length fields) × Unsuited field (getD fields at [])
+FieldWrong fields at field (Surplus n) = ⊥
+FieldWrong fields at field NoMemory = ⊥
+
+-- which field stands where in share RULE ROOM TOTAL WEIGHT...
+abbrev pub field-at : ℕ → Field
+field-at zero = CommandField
+field-at (suc zero) = RuleField
+field-at (suc (suc zero)) = RoomField
+field-at (suc (suc (suc zero))) = TotalField
+field-at (suc (suc (suc (suc n)))) = WeightField
+
+-- what is wrong with the fields of a line that is no command: they end too soon; one does not suit; `tally` has more than
+-- its name; or there was no memory to read them
 abbrev pub Wrong : List (List ℕ) → Unread → Type 0
 Wrong fields NotText = ⊥
-Wrong fields (Missing at field) = length fields ≤ at
-Wrong fields (Malformed at field) = (at < length fields) × Unsuited field (getD fields at [])
-Wrong fields (Surplus at) = at < length fields
+Wrong fields (Missing at field) = (at ≡ length fields) × (field ≡ field-at at)
+Wrong fields (Malformed at field) = (at < length fields) × (field ≡ field-at at) × Unsuited field (getD fields at [])
+Wrong fields (Surplus at) = (at ≡ 1) × (1 < length fields) × (getD fields 0 [] ≡ codes "tally")
 Wrong fields NoMemory = Unit {0}
 
 -- the same of a line, or it is no text at all

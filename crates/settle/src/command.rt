@@ -10,8 +10,9 @@ ghost use Rattle.std.specs.Results.{Cases};
 ghost use Rattle.std.specs.Vec.{made};
 ghost use Rattle.std.specs.declared.result.Result.the-variants.{Ok, Err};
 ghost use Rattle.sharing.specs.Named.{name-of};
-ghost use Rattle.settle.specs.Grammar.{texts, Asks, Unsuited, Wrong};
-ghost use Rattle.settle.specs.declared.command.Unread.the-variants.{NoMemory};
+ghost use Rattle.settle.specs.Grammar.{texts, Asks, Unsuited, FieldWrong, Wrong};
+ghost use Rattle.settle.specs.declared.command.Unread.the-variants.{Surplus, NoMemory};
+ghost use Rattle.settle.specs.declared.command.Field.the-variants.{Rule as RuleField};
 use sharing::NamedRule;
 use std::alloc::AllocError;
 use std::alloc::Global;
@@ -135,7 +136,7 @@ fn read_fields(heap: Global, fields: &[&str]) -> Result<Command, Unread>
 
 /// A command that has no fields but its name.
 fn read_bare(command: Command, fields: &[&str]) -> Result<Command, Unread>
-    ensures { λ r. ⌜ Cases r (λ c. (c ≡ command) × (length (now (fields .entry)) ≤ 1)) (λ u. Wrong (texts (now (fields .entry))) u) ⌝ }
+    ensures { λ r. ⌜ Cases r (λ c. (c ≡ command) × (length (now (fields .entry)) ≤ 1)) (λ u. (u ≡ Surplus 1) × (1 < length (now (fields .entry)))) ⌝ }
 {
     if fields.len() > 1 {
         return Err(Unread::Surplus { at: 1 });
@@ -144,6 +145,7 @@ fn read_bare(command: Command, fields: &[&str]) -> Result<Command, Unread>
 }
 
 fn read_share(heap: Global, fields: &[&str]) -> Result<Command, Unread>
+    requires { ⌜ 0 < length (now fields) ⌝ }
     ensures { λ r. ⌜ Cases r (λ c. getD (texts (now (fields .entry))) 0 [] ≡ codes "share" → Asks (texts (now (fields .entry))) c) (λ u. Wrong (texts (now (fields .entry))) u) ⌝ }
 {
     let rule = read_rule(fields, 1)?;
@@ -162,7 +164,7 @@ fn read_share(heap: Global, fields: &[&str]) -> Result<Command, Unread>
 }
 
 fn read_rule(fields: &[&str], at: usize) -> Result<NamedRule, Unread>
-    ensures { λ r. ⌜ Cases r (λ rule. (at < length (now (fields .entry))) × (getD (texts (now (fields .entry))) at [] ≡ name-of rule)) (λ u. Wrong (texts (now (fields .entry))) u) ⌝ }
+    ensures { λ r. ⌜ Cases r (λ rule. (at < length (now (fields .entry))) × (getD (texts (now (fields .entry))) at [] ≡ name-of rule)) (λ u. FieldWrong (texts (now (fields .entry))) at RuleField u) ⌝ }
 {
     let field = Field::Rule;
     match field_text(fields, at, field)? {
@@ -176,7 +178,7 @@ fn read_number<N: FromStr>(fields: &[&str], at: usize, field: Field) -> Result<N
 where
     N::Err: Drop,
     requires { ⌜ ((text : List ℕ) (e : N·Err) → N·FromStr .reads text (Err e) → Unsuited field text) ⌝ }
-    ensures { λ r. ⌜ Cases r (λ n. (at < length (now (fields .entry))) × N·FromStr .reads (getD (texts (now (fields .entry))) at []) (Ok n)) (λ u. Wrong (texts (now (fields .entry))) u) ⌝ }
+    ensures { λ r. ⌜ Cases r (λ n. (at < length (now (fields .entry))) × N·FromStr .reads (getD (texts (now (fields .entry))) at []) (Ok n)) (λ u. FieldWrong (texts (now (fields .entry))) at field u) ⌝ }
 {
     match field_text(fields, at, field)?.parse::<N>() {
         Ok(number) => Ok(number),
@@ -185,7 +187,7 @@ where
 }
 
 fn field_text<'a>(fields: &[&'a str], at: usize, field: Field) -> Result<&'a str, Unread>
-    ensures { λ r. ⌜ Cases r (λ text. (at < length (now (fields .entry))) × (now text ≡ getD (texts (now (fields .entry))) at [])) (λ u. Wrong (texts (now (fields .entry))) u) ⌝ }
+    ensures { λ r. ⌜ Cases r (λ text. (at < length (now (fields .entry))) × (now text ≡ getD (texts (now (fields .entry))) at [])) (λ u. FieldWrong (texts (now (fields .entry))) at field u) ⌝ }
 {
     match fields.get(at) {
         Some(text) => Ok(*text),

@@ -1,4 +1,4 @@
-use mathlib.Core.Path.{_≡_, sym, ap, _∙_}
+use mathlib.Core.Path.{_≡_, refl, sym, ap, _∙_}
 use mathlib.Core.List.{[]}
 use native.Mathlib.Omega.{arith}
 use lib.ListN.{length-map}
@@ -11,4 +11,4 @@ returns-in-Some c =
     (found .3 .0, ap (λ f. f .now) (found .1) ∙ sym (getD-map (λ f. f .now) (c .args .fields .now) (c .args .at) _ [] (found .3 .0)))
 
 pub returns-in-None : need.returns-in-None
-returns-in-None c = omega (arith, length-map (c .args .fields .now) (λ f. f .now), c .in-None .ensures tt .finds .3)
+returns-in-None c = (refl, refl, omega (arith, length-map (c .args .fields .now) (λ f. f .now), c .in-None .ensures tt .finds .3))

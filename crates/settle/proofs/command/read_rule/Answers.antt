@@ -1,4 +1,4 @@
-use mathlib.Core.Path.{_∙_}
+use mathlib.Core.Path.{refl, _∙_}
 use native.Mathlib.Omega.{arith}
 use lib.ListN.{length-map}
 use Rattle.settle.proofs.command.read_rule.Needs as need
@@ -6,4 +6,4 @@ use Rattle.settle.proofs.command.read_rule.Needs as need
 pub returns-in-rest : need.returns-in-rest
 returns-in-rest c =
     let text = c .in-Continue-field-text .ensures tt in
-    (omega (arith, length-map (c .args .fields .now) (λ f. f .now), text .0), (λ e. c .in-rest .not-running (text .1 ∙ e), λ e. c .in-rest .not-text (text .1 ∙ e)))
+    (refl, refl, omega (arith, length-map (c .args .fields .now) (λ f. f .now), text .0), (λ e. c .in-rest .not-running (text .1 ∙ e), λ e. c .in-rest .not-text (text .1 ∙ e)))
