@@ -1,7 +1,7 @@
 -- The command language: what a line's fields ask for.
 use mathlib.Core.Path.{_≡_}
-use mathlib.Core.Bool.{Bool, cond, _&&_, _||_}
-use mathlib.Core.List.{List, [], _∷_, map}
+use mathlib.Core.Bool.{Bool, true, false, cond, _&&_, _||_}
+use mathlib.Core.List.{List, [], _∷_, _++_, map}
 use mathlib.Core.Logic.{_⊎_}
 use Prim.Native.Nat.{ℕ, zero, suc, _+_, _-_, _^_, _<_, _≤_}
 use denote.Ref.{RefT}
@@ -14,16 +14,19 @@ use Rattle.std.specs.Pieces.{rejoined}
 use Rattle.std.specs.Reads.{Numeral, value, afterPlus, afterSign, signedValue}
 use Rattle.std.specs.Text.{Utf8, asciiWhite}
 use Rattle.std.specs.shelf.Lists.{leading}
+use Rattle.charges.specs.Named.{name-of as charge-name}
+use Rattle.charges.specs.declared.charge.Asked.{Asked}
+use Rattle.charges.specs.declared.named.NamedCharge.{NamedCharge}
 use Rattle.sharing.specs.Named.{name-of}
 use Rattle.sharing.specs.declared.rule.named.NamedRule.{NamedRule}
 use mir.Syntax.{w64}
 use mir.Val.{SFits}
 use Rattle.settle.specs.declared.command.Field.{Field}
-use Rattle.settle.specs.declared.command.Field.the-variants.{Command as CommandField, Rule as RuleField, Room as RoomField, Total as TotalField, Weight as WeightField}
+use Rattle.settle.specs.declared.command.Field.the-variants.{Command as CommandField, Rule as RuleField, Room as RoomField, Total as TotalField, Weight as WeightField, Charge as ChargeField, Hours as HoursField, Trued as TruedField, Word as WordField}
 use Rattle.settle.specs.declared.command.Unread.{Unread}
 use Rattle.settle.specs.declared.command.Unread.the-variants.{NotText, Missing, Malformed, Surplus, NoMemory}
 use Rattle.settle.specs.declared.command.Command.{Command}
-use Rattle.settle.specs.declared.command.Command.the-variants.{Share, Report}
+use Rattle.settle.specs.declared.command.Command.the-variants.{Share, Block, Report}
 
 -- nothing but ASCII white space: tabs, line and form feeds, carriage returns and spaces
 abbrev pub blank : List ℕ → Bool
@@ -44,6 +47,16 @@ Writes text n = Numeral 10 (afterPlus text) × (n ≡ value 10 (afterPlus text))
 abbrev pub WritesSigned : List ℕ → ℤ → Type 0
 WritesSigned text z = Numeral 10 (afterSign text) × (z ≡ signedValue 10 text)
 
+-- the text writes the number in decimal or, behind 0x, in hexadecimal
+abbrev pub WritesWord : List ℕ → ℕ → Type 0
+WritesWord text n =
+    ((digits : List ℕ) × (text ≡ codes "0x" ++ digits) × Numeral 16 (afterPlus digits) × (n ≡ value 16 (afterPlus digits)))
+    ⊎ (((digits : List ℕ) → text ≡ codes "0x" ++ digits → ⊥) × Writes text n)
+
+abbrev pub flag : Bool → List ℕ
+flag false = codes "0"
+flag true = codes "1"
+
 -- share RULE ROOM TOTAL WEIGHT...
 pub record AsksShare (fields : List (List ℕ)) (rule : NamedRule) (room : ℕ) (total : ℤ) (weights : List ℕ) : Type 0 where
   pub command-field : getD fields 0 [] ≡ codes "share"
@@ -53,9 +66,20 @@ pub record AsksShare (fields : List (List ℕ)) (rule : NamedRule) (room : ℕ) 
   pub no-more-fields : length fields ≡ 4 + length weights
   pub weight-fields : (k : ℕ) → k < length weights → Writes (getD fields (4 + k) []) (getD weights k 0)
 
+-- block TYPE HOURS TRUED ROOM WORD...
+pub record AsksBlock (fields : List (List ℕ)) (charge : NamedCharge) (asked : Asked) (room : ℕ) (words : List ℕ) : Type 0 where
+  pub command-field : getD fields 0 [] ≡ codes "block"
+  pub type-field : getD fields 1 [] ≡ charge-name charge
+  pub hours-field : Writes (getD fields 2 []) (asked .hours)
+  pub trued-field : getD fields 3 [] ≡ flag (asked .«trued_up»)
+  pub room-field : Writes (getD fields 4 []) room
+  pub no-more-fields : length fields ≡ 5 + length words
+  pub word-fields : (k : ℕ) → k < length words → WritesWord (getD fields (5 + k) []) (getD words k 0)
+
 -- the fields of a line that asks for the command
 abbrev pub Asks : List (List ℕ) → Command → Type 0
 Asks fields (Share rule room total weights) = AsksShare fields rule room total (vec-items weights)
+Asks fields (Block charge asked room words) = AsksBlock fields charge asked room (vec-items words)
 Asks fields Report = fields ≡ codes "tally" ∷ []
 
 -- a line without one byte `end` at its end
@@ -72,11 +96,15 @@ LineAsks line command = (fields : List (List ℕ)) × (rejoined 32 fields ≡ co
 
 -- the text does not suit the field
 abbrev pub Unsuited : Field → List ℕ → Type 0
-Unsuited CommandField text = (text ≡ codes "share" → ⊥) × (text ≡ codes "tally" → ⊥)
+Unsuited CommandField text = (text ≡ codes "share" → ⊥) × (text ≡ codes "block" → ⊥) × (text ≡ codes "tally" → ⊥)
 Unsuited RuleField text = (text ≡ codes "running" → ⊥) × (text ≡ codes "in-turn" → ⊥)
 Unsuited RoomField text = (n : ℕ) → Writes text n → n < 2 ^ 64 → ⊥
 Unsuited TotalField text = (z : ℤ) → WritesSigned text z → SFits w64 z → ⊥
 Unsuited WeightField text = (n : ℕ) → Writes text n → n < 2 ^ 32 → ⊥
+Unsuited ChargeField text = text ≡ codes "standby" → ⊥
+Unsuited HoursField text = (n : ℕ) → Writes text n → n < 2 ^ 64 → ⊥
+Unsuited TruedField text = (text ≡ codes "0" → ⊥) × (text ≡ codes "1" → ⊥)
+Unsuited WordField text = (n : ℕ) → WritesWord text n → n < 2 ^ 32 → ⊥
 
 -- what is wrong with the field that should stand at a place: it is missing, or its text does not suit
 abbrev pub FieldWrong : List (List ℕ) → ℕ → Field → Unread → Type 0
@@ -86,20 +114,33 @@ FieldWrong fields at field (Malformed n f) = (n ≡ at) × (f ≡ field) × (at 
 FieldWrong fields at field (Surplus n) = ⊥
 FieldWrong fields at field NoMemory = ⊥
 
--- which field stands where in share RULE ROOM TOTAL WEIGHT...
-abbrev pub field-at : ℕ → Field
-field-at zero = CommandField
-field-at (suc zero) = RuleField
-field-at (suc (suc zero)) = RoomField
-field-at (suc (suc (suc zero))) = TotalField
-field-at (suc (suc (suc (suc n)))) = WeightField
+-- which field stands where behind the name in share RULE ROOM TOTAL WEIGHT...
+abbrev pub share-field : ℕ → Field
+share-field zero = RuleField
+share-field (suc zero) = RoomField
+share-field (suc (suc zero)) = TotalField
+share-field (suc (suc (suc n))) = WeightField
+
+-- and in block TYPE HOURS TRUED ROOM WORD...
+abbrev pub block-field : ℕ → Field
+block-field zero = ChargeField
+block-field (suc zero) = HoursField
+block-field (suc (suc zero)) = TruedField
+block-field (suc (suc (suc zero))) = RoomField
+block-field (suc (suc (suc (suc n)))) = WordField
+
+-- the field that belongs at a place of a line
+abbrev pub Belongs : List (List ℕ) → ℕ → Field → Type 0
+Belongs fields zero field = field ≡ CommandField
+Belongs fields (suc n) field =
+    ((getD fields 0 [] ≡ codes "share") × (field ≡ share-field n)) ⊎ ((getD fields 0 [] ≡ codes "block") × (field ≡ block-field n))
 
 -- what is wrong with the fields of a line that is no command: they end too soon; one does not suit; `tally` has more than
 -- its name; or there was no memory to read them
 abbrev pub Wrong : List (List ℕ) → Unread → Type 0
 Wrong fields NotText = ⊥
-Wrong fields (Missing at field) = (at ≡ length fields) × (field ≡ field-at at)
-Wrong fields (Malformed at field) = (at < length fields) × (field ≡ field-at at) × Unsuited field (getD fields at [])
+Wrong fields (Missing at field) = (at ≡ length fields) × Belongs fields at field
+Wrong fields (Malformed at field) = (at < length fields) × Belongs fields at field × Unsuited field (getD fields at [])
 Wrong fields (Surplus at) = (at ≡ 1) × (1 < length fields) × (getD fields 0 [] ≡ codes "tally")
 Wrong fields NoMemory = Unit {0}
 

@@ -7,7 +7,7 @@ use Rattle.sharing.specs.Laws.{sumℤ}
 use Rattle.settle.specs.declared.tally.Tally.{Tally}
 
 abbrev pub nothing-done : Tally
-nothing-done = record { shared = 0; refused = 0; unread = 0; totals = pos 0; shares = pos 0 }
+nothing-done = record { shared = 0; refused = 0; unread = 0; totals = pos 0; shares = pos 0; blocks = 0; amounts = pos 0 }
 
 -- a count stays at the largest number of 64 bits, a sum at the largest in size of 128
 abbrev pub one-more : ℕ → ℕ
@@ -20,10 +20,23 @@ with-shares t total shares = record {
   unread = t .unread;
   totals = saturated 127 (t .totals +ℤ total);
   shares = saturated 127 (t .shares +ℤ sumℤ shares);
+  blocks = t .blocks;
+  amounts = t .amounts;
+}
+
+abbrev pub with-block : Tally → List ℤ → Tally
+with-block t amounts = record {
+  shared = t .shared;
+  refused = t .refused;
+  unread = t .unread;
+  totals = t .totals;
+  shares = t .shares;
+  blocks = one-more (t .blocks);
+  amounts = saturated 127 (t .amounts +ℤ sumℤ amounts);
 }
 
 abbrev pub with-refusal : Tally → Tally
-with-refusal t = record { shared = t .shared; refused = one-more (t .refused); unread = t .unread; totals = t .totals; shares = t .shares }
+with-refusal t = record { shared = t .shared; refused = one-more (t .refused); unread = t .unread; totals = t .totals; shares = t .shares; blocks = t .blocks; amounts = t .amounts }
 
 abbrev pub with-unread : Tally → Tally
-with-unread t = record { shared = t .shared; refused = t .refused; unread = one-more (t .unread); totals = t .totals; shares = t .shares }
+with-unread t = record { shared = t .shared; refused = t .refused; unread = one-more (t .unread); totals = t .totals; shares = t .shares; blocks = t .blocks; amounts = t .amounts }

@@ -2,21 +2,31 @@
 ghost use mathlib.Core.Path.{_≡_};
 ghost use Rattle.std.specs.Of.String.{string-bytes};
 ghost use Rattle.std.specs.Vec.{made};
-ghost use Rattle.settle.specs.Lines.{shares-line, refusal-line, tally-line, Says};
+ghost use Rattle.settle.specs.Lines.{with-amounts, refused-line, refusal-line, blocks-part, tally-line, Says};
 use crate::command::Unread;
 use crate::command::UnreadDisplay;
 use crate::tally::Tally;
+use charges::ChargeFault;
+use sharing::Layer;
 use sharing::LayerDisplay;
 use sharing::ShareFault;
-use sharing::ShareFaultDisplay;
 use std::alloc::AllocError;
 use std::alloc::Global;
+
+/// What the engine refused, and why.
+#[derive(Clone, Copy)]
+pub enum Refusal {
+    Share(ShareFault),
+    Charge(ChargeFault),
+}
 
 #[derive(Drop)]
 pub enum Answer {
     Shares(Vec<i64>),
+    /// A block's length in words, and its amount for each hour.
+    Block { length: usize, amounts: Vec<i64> },
     Report(Tally),
-    Refused(ShareFault),
+    Refused(Refusal),
     Error { line: u64, unread: Unread },
 }
 
@@ -25,31 +35,51 @@ pub fn answer_text(heap: Global, answer: &Answer) -> Result<String, AllocError>
     ensures { λ r. ⌜ made r (λ line. Says (now (answer .entry)) (string-bytes line)) ⌝ }
 {
     match answer {
-        Answer::Shares(shares) => shares_text(heap, shares.as_slice()),
+        Answer::Shares(shares) => {
+            let line = String::from_str(heap, "ok")?;
+            amounts_text(heap, line, shares.as_slice())
+        }
+        Answer::Block { length, amounts } => {
+            let line = format!(heap, "ok {length}")?;
+            amounts_text(heap, line, amounts.as_slice())
+        }
         Answer::Report(tally) => tally_text(heap, *tally),
-        Answer::Refused(fault) => refusal_text(heap, *fault),
+        Answer::Refused(refusal) => refusal_text(heap, *refusal),
         Answer::Error { line, unread } => format!(heap, "error (line {line}, {unread})"),
     }
 }
 
-fn shares_text(heap: Global, shares: &[i64]) -> Result<String, AllocError>
-    ensures { λ r. ⌜ made r (λ line. string-bytes line ≡ shares-line (now (shares .entry))) ⌝ }
+/// The line with each of the amounts behind it.
+fn amounts_text(heap: Global, line: String, amounts: &[i64]) -> Result<String, AllocError>
+    ensures { λ r. ⌜ made r (λ whole. string-bytes whole ≡ with-amounts (string-bytes line) (now (amounts .entry))) ⌝ }
 {
-    let mut line = String::from_str(heap, "ok")?;
-    for share in shares {
-        let field = format!(heap, " {share}")?;
+    let mut line = line;
+    for amount in amounts {
+        let field = format!(heap, " {amount}")?;
         line.push_str(field.as_str())?;
     }
     Ok(line)
 }
 
-fn refusal_text(heap: Global, fault: ShareFault) -> Result<String, AllocError>
-    ensures { λ r. ⌜ made r (λ line. string-bytes line ≡ refusal-line fault) ⌝ }
+fn refusal_text(heap: Global, refusal: Refusal) -> Result<String, AllocError>
+    ensures { λ r. ⌜ made r (λ line. string-bytes line ≡ refusal-line refusal) ⌝ }
 {
-    let number = fault.number();
-    let place = fault.place();
-    let layer = fault.layer();
-    format!(heap, "refused {number} {place} {layer} ({fault})")
+    match refusal {
+        Refusal::Share(f) => refused_text(heap, f.number(), f.place(), f.layer(), f.reason()),
+        Refusal::Charge(f) => refused_text(heap, f.number(), f.place(), f.layer(), f.reason()),
+    }
+}
+
+fn refused_text(
+    heap: Global,
+    number: u32,
+    place: usize,
+    layer: Layer,
+    reason: &str,
+) -> Result<String, AllocError>
+    ensures { λ r. ⌜ made r (λ line. string-bytes line ≡ refused-line number place layer (now (reason .entry))) ⌝ }
+{
+    format!(heap, "refused {number} {place} {layer} ({reason})")
 }
 
 fn tally_text(heap: Global, tally: Tally) -> Result<String, AllocError>
@@ -60,8 +90,20 @@ fn tally_text(heap: Global, tally: Tally) -> Result<String, AllocError>
     let unread = tally.unread;
     let totals = tally.totals;
     let shares = tally.shares;
+    let mut line = format!(heap, "ok {shared} {refused} {unread} {totals} {shares}")?;
+    let rest = blocks_text(heap, tally)?;
+    line.push_str(rest.as_str())?;
+    Ok(line)
+}
+
+/// The end of a tally's line.
+fn blocks_text(heap: Global, tally: Tally) -> Result<String, AllocError>
+    ensures { λ r. ⌜ made r (λ line. string-bytes line ≡ blocks-part tally) ⌝ }
+{
+    let blocks = tally.blocks;
+    let amounts = tally.amounts;
     format!(
         heap,
-        "ok {shared} {refused} {unread} {totals} {shares} (totals shared, questions refused, lines not read, cents in the totals, cents in the shares)"
+        " {blocks} {amounts} (totals shared, questions refused, lines not read, cents in the totals, cents in the shares, blocks paid, cents in their amounts)"
     )
 }

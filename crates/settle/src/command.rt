@@ -1,4 +1,6 @@
 //! The command language: fields separated by single spaces, the first of them the command's name.
+pub mod block;
+
 ghost use mathlib.Core.List.{List, []};
 ghost use mathlib.Core.Path.{_≡_};
 ghost use Prim.Native.Nat.{ℕ, _<_, _≤_};
@@ -13,6 +15,9 @@ ghost use Rattle.sharing.specs.Named.{name-of};
 ghost use Rattle.settle.specs.Grammar.{texts, Asks, Unsuited, FieldWrong, Wrong};
 ghost use Rattle.settle.specs.declared.command.Unread.the-variants.{Surplus, NoMemory};
 ghost use Rattle.settle.specs.declared.command.Field.the-variants.{Rule as RuleField};
+use crate::command::block::read_block;
+use charges::Asked;
+use charges::NamedCharge;
 use sharing::NamedRule;
 use std::alloc::AllocError;
 use std::alloc::Global;
@@ -30,6 +35,13 @@ pub enum Command {
         total: i64,
         weights: Vec<u32>,
     },
+    /// `block TYPE HOURS TRUED ROOM WORD...`
+    Block {
+        charge: NamedCharge,
+        asked: Asked,
+        room: usize,
+        words: Vec<u32>,
+    },
     /// `tally`
     Report,
 }
@@ -42,6 +54,10 @@ pub enum Field {
     Room,
     Total,
     Weight,
+    Charge,
+    Hours,
+    Trued,
+    Word,
 }
 
 pub impl fmt::Display for Field as FieldDisplay {
@@ -52,6 +68,10 @@ pub impl fmt::Display for Field as FieldDisplay {
             Field::Room => "ROOM",
             Field::Total => "TOTAL",
             Field::Weight => "WEIGHT",
+            Field::Charge => "TYPE",
+            Field::Hours => "HOURS",
+            Field::Trued => "TRUED",
+            Field::Word => "WORD",
         };
         f.write_str(name)
     }
@@ -94,18 +114,30 @@ pub impl fmt::Display for Unread as UnreadDisplay {
             Unread::NotText => f.write_str("not UTF-8 text"),
             Unread::Missing { at, field } => write!(f, "field {}: {field} is missing", place(*at)),
             Unread::Malformed { at, field } => {
-                let expected = match field {
-                    Field::Command => "share or tally",
-                    Field::Rule => "running or in-turn",
-                    Field::Room => "an unsigned 64-bit number",
-                    Field::Total => "a signed 64-bit number",
-                    Field::Weight => "an unsigned 32-bit number",
-                };
-                write!(f, "field {}: {field} is not {expected}", place(*at))
+                write!(
+                    f,
+                    "field {}: {field} is not {}",
+                    place(*at),
+                    expected(*field)
+                )
             }
             Unread::Surplus { at } => write!(f, "field {}: one field too many", place(*at)),
             Unread::NoMemory => f.write_str("no memory to read it"),
         }
+    }
+}
+
+/// What a field may be.
+fn expected(field: Field) -> &'static str {
+    match field {
+        Field::Command => "share, block or tally",
+        Field::Rule => "running or in-turn",
+        Field::Room | Field::Hours => "an unsigned 64-bit number",
+        Field::Total => "a signed 64-bit number",
+        Field::Weight => "an unsigned 32-bit number",
+        Field::Charge => "standby",
+        Field::Trued => "0 or 1",
+        Field::Word => "an unsigned 32-bit number, in decimal or 0x hexadecimal",
     }
 }
 
@@ -129,6 +161,7 @@ fn read_fields(heap: Global, fields: &[&str]) -> Result<Command, Unread>
     let field = Field::Command;
     match field_text(fields, 0, field)? {
         "share" => read_share(heap, fields),
+        "block" => read_block(heap, fields),
         "tally" => read_bare(Command::Report, fields),
         _ => Err(Unread::Malformed { at: 0, field }),
     }
@@ -146,7 +179,7 @@ fn read_bare(command: Command, fields: &[&str]) -> Result<Command, Unread>
 
 fn read_share(heap: Global, fields: &[&str]) -> Result<Command, Unread>
     requires { ⌜ 0 < length (now fields) ⌝ }
-    ensures { λ r. ⌜ Cases r (λ c. getD (texts (now (fields .entry))) 0 [] ≡ codes "share" → Asks (texts (now (fields .entry))) c) (λ u. Wrong (texts (now (fields .entry))) u) ⌝ }
+    ensures { λ r. ⌜ Cases r (λ c. getD (texts (now (fields .entry))) 0 [] ≡ codes "share" → Asks (texts (now (fields .entry))) c) (λ u. getD (texts (now (fields .entry))) 0 [] ≡ codes "share" → Wrong (texts (now (fields .entry))) u) ⌝ }
 {
     let rule = read_rule(fields, 1)?;
     let room = read_number(fields, 2, Field::Room)?;
@@ -174,7 +207,7 @@ fn read_rule(fields: &[&str], at: usize) -> Result<NamedRule, Unread>
     }
 }
 
-fn read_number<N: FromStr>(fields: &[&str], at: usize, field: Field) -> Result<N, Unread>
+pub(crate) fn read_number<N: FromStr>(fields: &[&str], at: usize, field: Field) -> Result<N, Unread>
 where
     N::Err: Drop,
     requires { ⌜ ((text : List ℕ) (e : N·Err) → N·FromStr .reads text (Err e) → Unsuited field text) ⌝ }
@@ -186,7 +219,7 @@ where
     }
 }
 
-fn field_text<'a>(fields: &[&'a str], at: usize, field: Field) -> Result<&'a str, Unread>
+pub(crate) fn field_text<'a>(fields: &[&'a str], at: usize, field: Field) -> Result<&'a str, Unread>
     ensures { λ r. ⌜ Cases r (λ text. (at < length (now (fields .entry))) × (now text ≡ getD (texts (now (fields .entry))) at [])) (λ u. FieldWrong (texts (now (fields .entry))) at field u) ⌝ }
 {
     match fields.get(at) {

@@ -5,12 +5,19 @@ ghost use Rattle.std.specs.Results.{Cases};
 ghost use Rattle.std.specs.Vec.{made};
 ghost use Rattle.std.specs.declared.result.Result.the-variants.{Ok, Err};
 ghost use Rattle.settle.specs.Grammar.{blank, skipped, without-last, LineAsks, LineWrong};
-ghost use Rattle.settle.specs.Reply.{reply, Done, Answered};
+ghost use Rattle.settle.specs.Reply.{reply, paid-of, block-reply, Done, Answered};
 use crate::answer::Answer;
+use crate::answer::Refusal;
 use crate::command::Command;
 use crate::command::Unread;
 use crate::command::read_command;
 use crate::tally::Tally;
+use charges::Asked;
+use charges::ChargeFault;
+use charges::NamedCharge;
+use charges::NamedCharging;
+use charges::block::MOST_HOURS;
+use charges::charge_part;
 use sharing::NamedRule;
 use sharing::NamedSharing;
 use sharing::PlainWeight;
@@ -102,7 +109,22 @@ fn carry_out(heap: Global, tally: &mut Tally, command: Command) -> Result<Answer
             }
             Err(fault) => {
                 tally.note_refusal();
-                Ok(Answer::Refused(fault))
+                Ok(Answer::Refused(Refusal::Share(fault)))
+            }
+        },
+        Command::Block {
+            charge,
+            asked,
+            room,
+            words,
+        } => match charge_block(heap, charge, asked, room, words.as_slice())? {
+            Ok((length, amounts)) => {
+                tally.note_block(amounts.as_slice());
+                Ok(Answer::Block { length, amounts })
+            }
+            Err(fault) => {
+                tally.note_refusal();
+                Ok(Answer::Refused(Refusal::Charge(fault)))
             }
         },
         Command::Report => Ok(Answer::Report(*tally)),
@@ -124,6 +146,28 @@ fn share(
     let mut memory = vec![in heap; 0; places]?;
     match apportion(&rule, total, weights, memory.as_mut_slice()) {
         Ok(()) => Ok(Ok(memory)),
+        Err(fault) => Ok(Err(fault)),
+    }
+}
+
+/// The length and the amounts of the block that begins the words, the type being lent `room` places for its hours.
+fn charge_block(
+    heap: Global,
+    charge: NamedCharge,
+    asked: Asked,
+    room: usize,
+    words: &[u32],
+) -> Result<Result<(usize, Vec<i64>), ChargeFault>, AllocError>
+    ensures { λ r. ⌜ made r (λ a. Cases a (λ b. Ok (paid-of (b .0) (vec-items (b .1))) ≡ block-reply charge asked room (now (words .entry))) (λ f. Err f ≡ block-reply charge asked room (now (words .entry)))) ⌝ }
+{
+    // Places past the hours are left as they were, so no more are lent than the longest day has.
+    let places = room.min(MOST_HOURS);
+    let mut memory = vec![in heap; 0; places]?;
+    match charge_part(&charge, words, asked, memory.as_mut_slice(), 0) {
+        Ok(length) => {
+            memory.truncate(asked.hours);
+            Ok(Ok((length, memory)))
+        }
         Err(fault) => Ok(Err(fault)),
     }
 }

@@ -1,9 +1,9 @@
 //! What the desk has done so far.
 ghost use mathlib.Core.Path.{_≡_};
 ghost use Rattle.sharing.specs.Laws.{sumℤ};
-ghost use Rattle.settle.specs.Tallies.{nothing-done, with-shares, with-refusal, with-unread};
+ghost use Rattle.settle.specs.Tallies.{nothing-done, with-shares, with-block, with-refusal, with-unread};
 
-/// Counts of answers, and the sums of the totals that were shared and of their shares.
+/// Counts of answers, and the sums of the totals that were shared, of their shares and of the blocks' amounts.
 #[derive(Clone, Copy)]
 pub struct Tally {
     pub shared: u64,
@@ -11,6 +11,8 @@ pub struct Tally {
     pub unread: u64,
     pub totals: i128,
     pub shares: i128,
+    pub blocks: u64,
+    pub amounts: i128,
 }
 
 impl Tally {
@@ -23,6 +25,8 @@ impl Tally {
             unread: 0,
             totals: 0,
             shares: 0,
+            blocks: 0,
+            amounts: 0,
         }
     }
 
@@ -32,6 +36,13 @@ impl Tally {
         self.shared = self.shared.saturating_add(1);
         self.totals = self.totals.saturating_add(i128::from(total));
         self.shares = self.shares.saturating_add(sum_cents(shares));
+    }
+
+    pub fn note_block(&mut self, amounts: &[i64])
+        ensures { λ _. ⌜ now (self .exit) ≡ with-block (now (self .entry)) (now (amounts .entry)) ⌝ }
+    {
+        self.blocks = self.blocks.saturating_add(1);
+        self.amounts = self.amounts.saturating_add(sum_cents(amounts));
     }
 
     pub fn note_refusal(&mut self)

@@ -6,4 +6,4 @@ use Rattle.figures.proofs.starred.starred_figures.Needs as need
 
 pub returns : need.returns
 unfolding judged running in-turn
-returns c = record { listed = refl; hold = ((refl, refl), ((refl, refl), ((refl, refl), ((refl, refl), tt)))) }
+returns c = record { listed = refl; hold = ((refl, refl), ((refl, refl), ((refl, refl), ((refl, refl), (refl, (refl, (refl, (refl, (refl, tt))))))))) }

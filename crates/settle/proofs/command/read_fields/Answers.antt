@@ -19,4 +19,4 @@ returns-in-tally c =
 pub returns-in-rest : need.returns-in-rest
 returns-in-rest c =
     let text = c .in-Continue-field-text .ensures tt in
-    (omega (arith, length-map (c .args .fields .now) (λ f. f .now), text .0), refl, (λ e. c .in-rest .not-share (text .1 ∙ e), λ e. c .in-rest .not-tally (text .1 ∙ e)))
+    (omega (arith, length-map (c .args .fields .now) (λ f. f .now), text .0), refl, (λ e. c .in-rest .not-share (text .1 ∙ e), λ e. c .in-rest .not-block (text .1 ∙ e), λ e. c .in-rest .not-tally (text .1 ∙ e)))

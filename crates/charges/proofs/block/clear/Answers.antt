@@ -1,0 +1,14 @@
+use mathlib.Core.Path.{_≡_, sym, ap, _∙_}
+use mathlib.Core.List.{List, [], _∷_, _++_, append-nil}
+use native.Mathlib.Omega.{arith}
+use lib.IntN.{pos}
+use lib.ListN.{length, replicate, drop, set}
+use Rattle.std.proofs.shelf.Lists.{drop-all}
+use Rattle.charges.proofs.Filling.{filled-more, filled-all}
+use Rattle.charges.proofs.block.clear.Needs as need
+
+pub loop-i-again : need.loop-i-again
+loop-i-again c = ap (λ l. set l (c .loop-i .i) (pos 0)) (c .loop-i .inv) ∙ filled-more (c .args .hours .now) (c .loop-i .i) (pos 0) (omega arith)
+
+pub returns : need.returns
+returns c = c .loop-i .inv ∙ filled-all (c .args .hours .now) (c .loop-i .i) (pos 0) (omega arith)

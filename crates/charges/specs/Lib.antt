@@ -1,0 +1,11 @@
+pub mod Faults
+pub mod Chains
+pub mod Outcome
+pub mod Laws
+pub mod Blocks
+pub mod Rounding
+pub mod Standby
+pub mod StandbyLaws
+pub mod StandbyBlock
+pub mod StandbyPromise
+pub mod Named

@@ -1,0 +1,4 @@
+pub mod Judging
+pub mod Heading
+pub mod InTurn
+pub mod Rowing
