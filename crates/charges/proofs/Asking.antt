@@ -1,11 +1,10 @@
 -- Whether a type may be asked, and what the answer and the memory say then.
 use mathlib.Core.Path.{_≡_, refl, sym, ap, subst, _∙_}
-use mathlib.Core.Bool.{Bool, cond, _||_}
-use mathlib.Core.Logic.{_⊎_, inl, inr}
+use mathlib.Core.Bool.{Bool}
+use mathlib.Core.Logic.{inl, inr}
 use mathlib.Core.List.{List, _++_}
 use Prim.Native.Nat.{ℕ, _+_, _-_, _≤_, _<_}
 use native.Mathlib.Omega.{arith}
-use lib.Dec.{ltb}
 use lib.IntN.{ℤ}
 use lib.ListN.{length, take, drop}
 use Rattle.std.specs.Results.{Cases}
@@ -14,10 +13,9 @@ use Rattle.std.specs.declared.result.Result.the-variants.{Ok, Err}
 use Rattle.std.proofs.shelf.Lists.{length-take-le, take-at, drop-at}
 use Rattle.std.proofs.shelf.Tests.{cases-lt}
 use Rattle.std.proofs.shelf.Ways.{tells}
-use Rattle.charges.specs.Outcome.{Paid, Outcome, judged, said, put-in, answer, left-in}
-use Rattle.charges.specs.Laws.{DayLong, Laws, Paying, FaultPlaced, Refused}
+use Rattle.charges.specs.Outcome.{Outcome, judged, said, put-in, answer, left-in}
+use Rattle.charges.specs.Laws.{DayLong, Laws, Paying, Refused}
 use Rattle.charges.specs.declared.charge.Asked.{Asked}
-use Rattle.charges.specs.declared.fault.BlockFault.{BlockFault}
 use Rattle.charges.specs.declared.fault.ChargeFault.{ChargeFault}
 use Rattle.charges.specs.declared.fault.ChargeFault.the-variants.{HoursOutOfRange, NoRoom, Block}
 

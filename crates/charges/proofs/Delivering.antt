@@ -1,15 +1,15 @@
 -- A block that was worked out as a value is delivered: what a type then answers and leaves.
-use mathlib.Core.Path.{_≡_, refl, sym, ap, _∙_}
+use mathlib.Core.Path.{_≡_, refl, ap, _∙_}
 use mathlib.Core.Bool.{Bool}
 use mathlib.Core.List.{List, _++_}
 use Prim.Native.Nat.{ℕ}
-use lib.IntN.{ℤ, pos}
-use lib.ListN.{length, take, drop, replicate}
+use lib.IntN.{ℤ}
+use lib.ListN.{length, take, drop}
 use Rattle.std.specs.declared.result.Result.{Result}
 use Rattle.std.specs.declared.result.Result.the-variants.{Ok, Err}
 use Rattle.std.proofs.shelf.Lists.{take-at}
 use Rattle.charges.specs.Blocks.{block-of, delivered, put-by}
-use Rattle.charges.specs.Outcome.{Paid, Outcome, judged, said, put-in, answer, left-in}
+use Rattle.charges.specs.Outcome.{Outcome, said, put-in, answer, left-in}
 use Rattle.charges.specs.Laws.{DayLong, Laws}
 use Rattle.charges.specs.declared.block.Block.{Block}
 use Rattle.charges.specs.declared.charge.Asked.{Asked}

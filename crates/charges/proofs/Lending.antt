@@ -1,11 +1,11 @@
 -- The part of a memory that begins at a place, lent and written.
-use mathlib.Core.Path.{_≡_, refl, sym, ap, subst, _∙_}
-use mathlib.Core.List.{List, [], _∷_, _++_, append-nil}
-use Prim.Native.Nat.{ℕ, _+_, _-_, _≤_, _<_, min}
+use mathlib.Core.Path.{_≡_, sym, ap, _∙_}
+use mathlib.Core.List.{List, [], _++_, append-nil}
+use Prim.Native.Nat.{ℕ, _+_, _-_, min}
 use native.Mathlib.Omega.{arith}
 use borrow.Rule.Slice.PartMut.{putMid}
 use lib.ListN.{length, take, drop}
-use Rattle.std.proofs.shelf.Lists.{take-all, drop-all, drop-drop, length-drop, length-take, take-rest}
+use Rattle.std.proofs.shelf.Lists.{take-all, drop-all, drop-drop, length-drop, take-rest}
 use Rattle.std.proofs.shelf.Tests.{cases-lt}
 use mathlib.Core.Logic.{inl, inr}
 

@@ -1,8 +1,8 @@
 -- Two charge types that keep the laws, together as one.
-use mathlib.Core.Path.{_≡_, refl, sym, ap, _∙_}
+use mathlib.Core.Path.{_≡_, sym, ap, _∙_}
 use mathlib.Core.Bool.{Bool, true, false, cond, _||_}
 use mathlib.Core.List.{List, _++_}
-use mathlib.Core.Logic.{_⊎_, inl, inr}
+use mathlib.Core.Logic.{inl, inr}
 use Prim.Native.Nat.{ℕ}
 use lib.ListN.{take}
 use Rattle.std.specs.declared.result.Result.the-variants.{Ok, Err}
@@ -11,7 +11,7 @@ use Rattle.words.specs.Heads.{head-kind, head-judged}
 use Rattle.words.specs.declared.fault.WordFault.{WordFault}
 use Rattle.words.proofs.Heading.{kind-kept}
 use Rattle.charges.specs.Outcome.{Paid, Outcome}
-use Rattle.charges.specs.Laws.{DayLong, UnitKind, Paying, FaultPlaced, Laws}
+use Rattle.charges.specs.Laws.{DayLong, Paying, FaultPlaced, Laws}
 use Rattle.charges.specs.declared.charge.Asked.{Asked}
 use Rattle.charges.specs.declared.fault.BlockFault.{BlockFault}
 use Rattle.charges.specs.declared.fault.BlockFault.the-variants.{Word}

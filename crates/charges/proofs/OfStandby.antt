@@ -1,19 +1,16 @@
 -- The standby payment: its factors, and what it keeps.
-use mathlib.Core.Path.{_≡_, refl, sym, ap, subst, _∙_}
-use mathlib.Core.Bool.{Bool, true, false, cond}
-use mathlib.Core.Logic.{_⊎_, inl, inr}
+use mathlib.Core.Path.{_≡_, sym, ap, subst, _∙_}
+use mathlib.Core.Bool.{Bool, cond}
 use Prim.Native.Nat.{ℕ, _+_, _-_, _*_, _/_, _^_, _≤_, _<_}
-use native.Mathlib.Nat.{div-mul-le-self, mul-le-mul-left, mul-le-mul-right, mul-assoc, mul-comm, mul-div-cancel}
+use native.Mathlib.Nat.{mul-div-cancel}
 use native.Mathlib.Omega.{arith}
 use lib.Dec.{leb, ltb}
-use Rattle.std.proofs.shelf.Bits.{mul-le, div-below, le-div}
-use Rattle.std.proofs.shelf.Tests.{cases-lt, cond-true, cond-false, lt-ltb, le-ltb, le-leb, lt-leb, cond-both, leb-false, leb-true, ltb-false, ltb-true}
-use Rattle.std.proofs.shelf.Ways.{tells}
+use Rattle.std.proofs.shelf.Bits.{mul-le}
+use Rattle.std.proofs.shelf.Tests.{cond-false, lt-leb, cond-both, leb-false}
 use Rattle.charges.specs.Rounding.{rounded}
 use Rattle.charges.specs.Standby.{cost, capacity-factor, availability-factor, earned-incentive, incentive-factor, filed-pay, pays-at, pays}
 use Rattle.charges.specs.StandbyLaws.{LawfulPay}
 use Rattle.charges.specs.declared.standby.terms.Availability.{Availability}
-use Rattle.charges.specs.declared.standby.terms.Basis.{Basis}
 use Rattle.charges.specs.declared.standby.terms.Basis.the-variants.{Estimated, Filed}
 use Rattle.charges.specs.declared.standby.terms.Capacity.{Capacity}
 use Rattle.charges.specs.declared.standby.terms.StandbyTerms.{StandbyTerms}

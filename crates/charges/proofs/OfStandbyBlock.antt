@@ -1,11 +1,11 @@
 -- A standby block: what its outcome says of each of its parts, and the laws.
 use mathlib.Core.Path.{_≡_, refl, sym, ap, subst, _∙_}
-use mathlib.Core.Bool.{Bool, true, false, cond}
+use mathlib.Core.Bool.{Bool}
 use mathlib.Core.List.{List, [], _∷_, _++_}
 use mathlib.Core.Logic.{_⊎_, inl, inr}
 use Prim.Native.Nat.{ℕ, _+_, _-_, _*_, _≤_, _<_, min}
 use native.Mathlib.Omega.{arith}
-use lib.Dec.{eqb, ltb}
+use lib.Dec.{eqb}
 use lib.IntN.{ℤ, pos, negℤ, natAbs}
 use lib.ListN.{length, getD, take, replicate}
 use Rattle.std.specs.declared.result.Result.{Result}
@@ -23,8 +23,8 @@ use Rattle.words.proofs.InTurn.{all-answers, a-fault, same-answers}
 use Rattle.words.proofs.Rowing.{row-kept, rows-kept, rows-inside, row-placed, rows-placed}
 use Rattle.charges.specs.Blocks.{filled-up, block-of}
 use Rattle.charges.specs.Chains.{and-then, of-words}
-use Rattle.charges.specs.Outcome.{Paid, Outcome}
-use Rattle.charges.specs.Laws.{DayLong, UnitKind, Paying, FaultPlaced, Laws}
+use Rattle.charges.specs.Outcome.{greatest-amount, Paid, Outcome}
+use Rattle.charges.specs.Laws.{DayLong, Paying, FaultPlaced, Laws}
 use Rattle.charges.specs.Standby.{pays, amount-of}
 use Rattle.charges.specs.StandbyBlock.{term-limits, count-limit, terms-of, as-terms, terms-read, nth, count-at, standby}
 use Rattle.charges.specs.declared.charge.Asked.{Asked}
@@ -34,21 +34,21 @@ use Rattle.charges.specs.declared.standby.terms.StandbyTerms.{StandbyTerms}
 use Rattle.charges.proofs.Chaining.{all-well, first-or-later, went, failed, words-well, words-wrong}
 
 -- an amount that is not over the limit
-pub amount-within : (t : StandbyTerms) (u : Bool) (hour n : ℕ) → pays t u hour n ≤ 1000000000 → amount-of t u hour n ≡ Ok (negℤ (pos (pays t u hour n)))
-amount-within t u hour n h = cond-false _ _ _ (le-ltb 1000000000 (pays t u hour n) h)
+pub amount-within : (t : StandbyTerms) (u : Bool) (hour n : ℕ) → pays t u hour n ≤ greatest-amount → amount-of t u hour n ≡ Ok (negℤ (pos (pays t u hour n)))
+amount-within t u hour n h = cond-false _ _ _ (le-ltb greatest-amount (pays t u hour n) h)
 
-pub amount-over : (t : StandbyTerms) (u : Bool) (hour n : ℕ) → 1000000000 < pays t u hour n → amount-of t u hour n ≡ Err AmountOverLimit
-amount-over t u hour n h = cond-true _ _ _ (lt-ltb 1000000000 (pays t u hour n) h)
+pub amount-over : (t : StandbyTerms) (u : Bool) (hour n : ℕ) → greatest-amount < pays t u hour n → amount-of t u hour n ≡ Err AmountOverLimit
+amount-over t u hour n h = cond-true _ _ _ (lt-ltb greatest-amount (pays t u hour n) h)
 
 -- what an amount that is given says of the payment
-pub amount-says : (t : StandbyTerms) (u : Bool) (hour n : ℕ) (z : ℤ) → amount-of t u hour n ≡ Ok z → (z ≡ negℤ (pos (pays t u hour n))) × (pays t u hour n ≤ 1000000000)
-amount-says t u hour n z e = elim (cases-lt 1000000000 (pays t u hour n)) [
+pub amount-says : (t : StandbyTerms) (u : Bool) (hour n : ℕ) (z : ℤ) → amount-of t u hour n ≡ Ok z → (z ≡ negℤ (pos (pays t u hour n))) × (pays t u hour n ≤ greatest-amount)
+amount-says t u hour n z e = elim (cases-lt greatest-amount (pays t u hour n)) [
   | inl h ↦ (let w : Err AmountOverLimit ≡ Ok z = sym (amount-over t u hour n h) ∙ e in let c : _≡_ {A = ℕ} 0 1 = cc in absurd (omega arith))
   | inr h ↦ (let w : Ok (negℤ (pos (pays t u hour n))) ≡ Ok z = sym (amount-within t u hour n h) ∙ e in let q : negℤ (pos (pays t u hour n)) ≡ z = cc in (sym q, h))
 ]
 
-pub amount-refused : (t : StandbyTerms) (u : Bool) (hour n : ℕ) (f : BlockFault) → amount-of t u hour n ≡ Err f → (f ≡ AmountOverLimit) × (1000000000 < pays t u hour n)
-amount-refused t u hour n f e = elim (cases-lt 1000000000 (pays t u hour n)) [
+pub amount-refused : (t : StandbyTerms) (u : Bool) (hour n : ℕ) (f : BlockFault) → amount-of t u hour n ≡ Err f → (f ≡ AmountOverLimit) × (greatest-amount < pays t u hour n)
+amount-refused t u hour n f e = elim (cases-lt greatest-amount (pays t u hour n)) [
   | inl h ↦ (let w : Err AmountOverLimit ≡ Err f = sym (amount-over t u hour n h) ∙ e in let q : AmountOverLimit ≡ f = cc in (sym q, h))
   | inr h ↦ (let w : Ok (negℤ (pos (pays t u hour n))) ≡ Err f = sym (amount-within t u hour n h) ∙ e in let c : _≡_ {A = ℕ} 0 1 = cc in absurd (omega arith))
 ]

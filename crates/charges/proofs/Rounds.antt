@@ -1,10 +1,9 @@
 -- Rounding: how it is worked out, what it gives, and how it grows.
-use mathlib.Core.Path.{_≡_, sym, ap, _∙_}
-use mathlib.Core.Logic.{inl, inr}
+use mathlib.Core.Path.{_≡_, ap, _∙_}
 use Prim.Native.Nat.{ℕ, zero, suc, _+_, _-_, _*_, _/_, _%_, _≤_, _<_}
 use native.Mathlib.Nat.{div-zero, div-mul-le-self, lt-div-mul-add, mul-div-mul-right, add-mul, mul-assoc, mul-left-comm}
 use native.Mathlib.Omega.{arith}
-use Rattle.std.proofs.shelf.Bits.{div-add-mod', mod-below, div-mul-add, le-div, mul-le}
+use Rattle.std.proofs.shelf.Bits.{div-add-mod', mod-below, div-mul-add, le-div}
 use Rattle.charges.specs.Rounding.{rounded, Nearest}
 
 pub div-grows : (m n k : ℕ) → m ≤ n → m / k ≤ n / k

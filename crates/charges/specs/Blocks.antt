@@ -5,7 +5,7 @@ use lib.IntN.{ℤ, pos}
 use lib.ListN.{length, take, replicate}
 use Rattle.std.specs.declared.result.Result.{Result}
 use Rattle.std.specs.declared.result.Result.the-variants.{Ok, Err}
-use Rattle.charges.specs.Outcome.{Paid, Outcome}
+use Rattle.charges.specs.Outcome.{Outcome}
 use Rattle.charges.specs.declared.block.Block.{Block}
 use Rattle.charges.specs.declared.fault.BlockFault.{BlockFault}
 use Rattle.charges.specs.declared.fault.ChargeFault.{ChargeFault}

@@ -9,7 +9,7 @@ use Rattle.std.specs.declared.result.Result.the-variants.{Ok, Err}
 use Rattle.words.specs.Faults.{Placed}
 use Rattle.words.specs.Heads.{head-kind, head-judged}
 use Rattle.words.specs.declared.fault.WordFault.{WordFault}
-use Rattle.charges.specs.Outcome.{Paid, Outcome}
+use Rattle.charges.specs.Outcome.{greatest-amount, Paid, Outcome}
 use Rattle.charges.specs.declared.charge.Asked.{Asked}
 use Rattle.charges.specs.declared.fault.BlockFault.{BlockFault}
 use Rattle.charges.specs.declared.fault.BlockFault.the-variants.{Word, Contradiction, AmountOverLimit}
@@ -30,7 +30,7 @@ pub record Paying (words : List ℕ) (asked : Asked) (n : ℕ) (amounts : List �
   pub inside : n ≤ length words
   pub short : n ≤ 600
   pub each-hour : length amounts ≡ asked .hours
-  pub within-limit : (h : ℕ) → natAbs (getD amounts h (pos 0)) ≤ 1000000000
+  pub within-limit : (h : ℕ) → natAbs (getD amounts h (pos 0)) ≤ greatest-amount
 
 -- where a block's fault may stand; a contradiction and an amount over the limit are faults of the whole block
 abbrev pub FaultPlaced : List ℕ → BlockFault → Type 0

@@ -12,6 +12,10 @@ use Rattle.charges.specs.declared.fault.BlockFault.{BlockFault}
 use Rattle.charges.specs.declared.fault.ChargeFault.{ChargeFault}
 use Rattle.charges.specs.declared.fault.ChargeFault.the-variants.{HoursOutOfRange, NoRoom, Block}
 
+-- the largest amount of an hour in size, in cents
+abbrev pub greatest-amount : ℕ
+greatest-amount = 1000000000
+
 -- a block that is paid: how many words it has, and its amount for each hour, in cents
 pub record Paid : Type 0 where
   pub words : ℕ

@@ -5,6 +5,7 @@ use lib.Dec.{leb, ltb}
 use lib.IntN.{ℤ, pos, negℤ}
 use Rattle.std.specs.declared.result.Result.{Result}
 use Rattle.std.specs.declared.result.Result.the-variants.{Ok, Err}
+use Rattle.charges.specs.Outcome.{greatest-amount}
 use Rattle.charges.specs.Rounding.{rounded}
 use Rattle.charges.specs.declared.fault.BlockFault.{BlockFault}
 use Rattle.charges.specs.declared.fault.BlockFault.the-variants.{AmountOverLimit}
@@ -53,7 +54,7 @@ pays-at Filed t trued-up hour n = filed-pay t (incentive-factor t hour n)
 abbrev pub pays : StandbyTerms → Bool → ℕ → ℕ → ℕ
 pays t trued-up hour n = pays-at (t .basis) t trued-up hour n
 
--- the amount of an hour (RMRSBAMT): a payment, and so negative; refused over 10,000,000.00
+-- the amount of an hour (RMRSBAMT): a payment, and so negative; refused over the limit
 abbrev pub amount-of : StandbyTerms → Bool → ℕ → ℕ → Result ℤ BlockFault
 amount-of t trued-up hour n =
-    cond (ltb 1000000000 (pays t trued-up hour n)) (Err AmountOverLimit) (Ok (negℤ (pos (pays t trued-up hour n))))
+    cond (ltb greatest-amount (pays t trued-up hour n)) (Err AmountOverLimit) (Ok (negℤ (pos (pays t trued-up hour n))))

@@ -1,7 +1,7 @@
 -- What the standby payment keeps, whatever the numbers.
 use mathlib.Core.Path.{_≡_}
 use mathlib.Core.Bool.{Bool, true, false}
-use Prim.Native.Nat.{ℕ, _+_, _*_, _≤_}
+use Prim.Native.Nat.{ℕ, _*_, _≤_}
 use Rattle.charges.specs.Rounding.{rounded}
 use Rattle.charges.specs.Standby.{cost, capacity-factor, availability-factor, earned-incentive, filed-pay}
 use Rattle.charges.specs.declared.standby.terms.Basis.the-variants.{Estimated, Filed}

@@ -10,6 +10,7 @@ use Rattle.words.specs.Split.{kind, content, party}
 use Rattle.words.specs.declared.fault.WordFault.{WordFault}
 use Rattle.words.specs.declared.fault.WordFault.the-variants.{WrongKind, Ended, OutOfRange}
 use Rattle.charges.specs.Laws.{DayLong}
+use Rattle.charges.specs.Outcome.{greatest-amount}
 use Rattle.charges.specs.Standby.{pays}
 use Rattle.charges.specs.StandbyBlock.{term-limits, count-limit, nth, terms-of}
 use Rattle.charges.specs.declared.charge.Asked.{Asked}
@@ -40,7 +41,16 @@ pub record StandbyPaid (words : List ℕ) (asked : Asked) (n : ℕ) (amounts : L
   pub whole : n ≡ 12 + asked .hours
   pub one-each : length amounts ≡ asked .hours
   pub payments : (h : ℕ) → h < asked .hours → getD amounts h (pos 0) ≡ negℤ (pos (pays terms (asked .«trued_up») h (nth counts h)))
-  pub within-limit : (h : ℕ) → h < asked .hours → pays terms (asked .«trued_up») h (nth counts h) ≤ 1000000000
+  pub within-limit : (h : ℕ) → h < asked .hours → pays terms (asked .«trued_up») h (nth counts h) ≤ greatest-amount
+
+-- a question that is lawful: the hours of a day and memory for them, a block in order, and no payment over the limit
+pub record StandbyLawful (words : List ℕ) (asked : Asked) (room : ℕ) : Type 0 where
+  pub day : DayLong asked
+  pub enough : asked .hours ≤ room
+  pub terms : StandbyTerms
+  pub counts : List ℤ
+  pub in-order : InOrder words (asked .hours) terms counts
+  pub within-limit : (h : ℕ) → h < asked .hours → pays terms (asked .«trued_up») h (nth counts h) ≤ greatest-amount
 
 abbrev pub HeadWrong : List ℕ → WordFault → Type 0
 HeadWrong words (Ended place) = (place ≡ 0) × (length words ≡ 0)
@@ -62,7 +72,7 @@ pub record PaymentOver (words : List ℕ) (asked : Asked) : Type 0 where
   pub in-order : InOrder words (asked .hours) terms counts
   pub hour : ℕ
   pub of-the-day : hour < asked .hours
-  pub over : 1000000000 < pays terms (asked .«trued_up») hour (nth counts hour)
+  pub over : greatest-amount < pays terms (asked .«trued_up») hour (nth counts hour)
 
 -- a question is refused for a fault that it has, and only if it has none that goes before
 abbrev pub StandbyRefused : List ℕ → Asked → ℕ → ChargeFault → Type 0

@@ -10,6 +10,9 @@ use crate::fault::ChargeFault;
 /// The most hours that a day has.
 pub const MOST_HOURS: usize = 25;
 
+/// The largest amount of an hour in size, in cents.
+pub const GREATEST_AMOUNT: u128 = 1_000_000_000;
+
 /// A block that was read and is paid; the amounts behind the day's last hour are 0.
 #[derive(Clone, Copy)]
 pub struct Block {

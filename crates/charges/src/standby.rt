@@ -6,12 +6,13 @@ ghost use Prim.Native.Nat.{_≤_};
 ghost use lib.Dec.{eqb};
 ghost use lib.IntN.{natAbs};
 ghost use lib.ListN.{length, take};
-ghost use Rattle.std.specs.Results.{Cases};
+ghost use Rattle.std.specs.Orderings.{Decides};
+ghost use Rattle.std.specs.Results.{Cases, isOk};
 ghost use Rattle.words.specs.Each.{each};
 ghost use Rattle.charges.specs.Outcome.{judged, answer, left-in};
 ghost use Rattle.charges.specs.Standby.{amount-of};
 ghost use Rattle.charges.specs.StandbyBlock.{standby, basis-of, terms-of, terms-read, count-at};
-ghost use Rattle.charges.specs.StandbyPromise.{StandbyPaid, StandbyRefused};
+ghost use Rattle.charges.specs.StandbyPromise.{StandbyLawful, StandbyPaid, StandbyRefused};
 ghost use Rattle.charges.specs.Blocks.{block-of, filled-up};
 use crate::block::Block;
 use crate::block::MOST_HOURS;
@@ -39,19 +40,24 @@ pub struct Standby;
 /// The kind of a standby block's head.
 const KIND: u32 = 3;
 
-/// The limits of the values behind the head, and of the hours' counts behind those.
+/// The limits of the values behind the head.
 const TERMS: [Limits; 11] = [
+    // Basis: 0 estimated, 1 filed.
     Limits { low: 0, high: 1 },
+    // Cost, dollars and cents.
     Limits {
         low: 0,
         high: 100_000_000,
     },
     Limits { low: 0, high: 99 },
+    // MH, hours under agreement.
     Limits { low: 1, high: 745 },
+    // IF, incentive, ten-thousandths.
     Limits {
         low: 0,
         high: 10_000,
     },
+    // CCAP, TCAP and TCAPA, kW.
     Limits {
         low: 1,
         high: 4_000_000,
@@ -64,20 +70,24 @@ const TERMS: [Limits; 11] = [
         low: 0,
         high: 4_000_000,
     },
+    // TA, target availability, ten-thousandths.
     Limits {
         low: 0,
         high: 10_000,
     },
+    // E, hours of the term gone by at hour 0.
     Limits {
         low: 0,
         high: 200_000,
     },
+    // HCP, hours of the term.
     Limits {
         low: 1,
         high: 200_000,
     },
 ];
 
+/// The limits of an hour's count of available hours.
 const COUNT: [Limits; 1] = [Limits {
     low: 0,
     high: 4_380,
@@ -104,6 +114,7 @@ pub impl ChargeType for Standby as StandbyCharge {
 pub fn charge_standby(words: &[u32], asked: Asked, hours: &mut [i64]) -> Result<usize, ChargeFault>
     ensures answers { λ r. ⌜ r ≡ answer (judged asked (length (now (hours .entry)))) (standby (now (words .entry)) asked) ⌝ }
     ensures leaves { λ _. ⌜ now (hours .exit) ≡ left-in (judged asked (length (now (hours .entry)))) asked (standby (now (words .entry)) asked) (now (hours .entry)) ⌝ }
+    ensures taken { λ r. ⌜ Decides (isOk r) (StandbyLawful (now (words .entry)) asked (length (now (hours .entry)))) ⌝ }
     ensures means { λ r. ⌜ Cases r (λ n. StandbyPaid (now (words .entry)) asked n (take (asked .hours) (now (hours .exit)))) (λ f. StandbyRefused (now (words .entry)) asked (length (now (hours .entry))) f) ⌝ }
 {
     judge_call(asked, hours.len())?;

@@ -100,52 +100,79 @@ pub impl fmt::Display for Figure as FigureDisplay {
                 weights,
                 shares,
             } => {
-                let [a, b, c] = *weights;
-                let [x, y, z] = *shares;
                 write!(
                     f,
-                    "{total} over {a}, {b}, {c} by the {rule} rule: {x}, {y}, {z}"
+                    "{total} over {} by the {rule} rule: {}",
+                    Three(*weights),
+                    Three(*shares)
                 )
             }
             Figure::CapacityFactor { capacity, factor } => {
-                let contract = capacity.contract_kw;
-                let tested = capacity.tested_kw;
-                let adjusting = capacity.adjusting_kw;
-                write!(
-                    f,
-                    "CCAP {contract}, TCAP {tested}, TCAPA {adjusting}: C {factor}"
-                )
+                write!(f, "{}: C {factor}", Shown(*capacity))
             }
             Figure::AvailabilityFactor {
                 availability,
                 hour,
                 available,
                 factor,
-            } => {
-                let target = availability.target;
-                let elapsed = availability.elapsed_hours;
-                let term = availability.term_hours;
-                write!(
-                    f,
-                    "TA {target}, E {elapsed}, HCP {term}, hour {hour}, n {available}: A {factor}"
-                )
-            }
+            } => write!(
+                f,
+                "{}, hour {hour}, n {available}: A {factor}",
+                Shown(*availability)
+            ),
             Figure::Standby {
                 terms,
                 hour,
                 available,
                 amount,
-            } => {
-                let dollars = terms.dollars;
-                let hours = terms.agreement_hours;
-                let incentive = terms.incentive;
-                let capacity = terms.capacity.factor();
-                let availability = terms.availability.factor(*hour, *available);
-                write!(
-                    f,
-                    "standby of ${dollars}, MH {hours}, IF {incentive}, C {capacity}, A {availability}: {amount}"
-                )
-            }
+            } => write!(
+                f,
+                "{}, C {}, A {}: {amount}",
+                Shown(*terms),
+                terms.capacity.factor(),
+                terms.availability.factor(*hour, *available)
+            ),
         }
+    }
+}
+
+/// Three numbers with commas between them.
+#[derive(Clone, Copy)]
+struct Three<T>([T; 3]);
+
+pub impl<T: fmt::Display> fmt::Display for Three<T> as ThreeDisplay {
+    fn fmt<W: fmt::Write>(&self, f: &mut fmt::Formatter<W>) -> fmt::Result {
+        write!(f, "{}, {}, {}", self.0[0], self.0[1], self.0[2])
+    }
+}
+
+/// Numbers of a unit by the names that the market gives them.
+#[derive(Clone, Copy)]
+struct Shown<T>(T);
+
+pub impl fmt::Display for Shown<Capacity> as ShownCapacity {
+    fn fmt<W: fmt::Write>(&self, f: &mut fmt::Formatter<W>) -> fmt::Result {
+        let contract = self.0.contract_kw;
+        let tested = self.0.tested_kw;
+        let adjusting = self.0.adjusting_kw;
+        write!(f, "CCAP {contract}, TCAP {tested}, TCAPA {adjusting}")
+    }
+}
+
+pub impl fmt::Display for Shown<Availability> as ShownAvailability {
+    fn fmt<W: fmt::Write>(&self, f: &mut fmt::Formatter<W>) -> fmt::Result {
+        let target = self.0.target;
+        let elapsed = self.0.elapsed_hours;
+        let term = self.0.term_hours;
+        write!(f, "TA {target}, E {elapsed}, HCP {term}")
+    }
+}
+
+pub impl fmt::Display for Shown<StandbyTerms> as ShownTerms {
+    fn fmt<W: fmt::Write>(&self, f: &mut fmt::Formatter<W>) -> fmt::Result {
+        let dollars = self.0.dollars;
+        let hours = self.0.agreement_hours;
+        let incentive = self.0.incentive;
+        write!(f, "standby of ${dollars}, MH {hours}, IF {incentive}")
     }
 }

@@ -1,5 +1,5 @@
 -- A line's fields, read one after another.
-use mathlib.Core.Path.{_≡_, refl, sym, ap, subst, _∙_}
+use mathlib.Core.Path.{_≡_, refl, sym, ap, subst}
 use mathlib.Core.List.{List, [], _∷_, _++_}
 use mathlib.Core.Logic.{inl, inr}
 use Prim.Native.Nat.{ℕ, zero, suc, _+_, _<_, _≤_}
@@ -50,6 +50,11 @@ wrong-at fields at field (Malformed n f) h b w = (
 )
 wrong-at fields at field (Surplus n) h b w = absurd w
 wrong-at fields at field NoMemory h b w = tt
+
+-- a line that has a name has a field
+pub named : (fields : List (List ℕ)) (x : ℕ) (xs : List ℕ) → getD fields 0 [] ≡ x ∷ xs → 1 ≤ length fields
+named [] x xs e = let z : _≡_ {A = ℕ} 0 1 = cc in absurd (omega arith)
+named (f ∷ fs) x xs e = omega arith
 
 -- the fields of a share command behind its name, and of a block command
 pub in-share : (fields : List (List ℕ)) (n : ℕ) → getD fields 0 [] ≡ codes "share" → Belongs fields (suc n) (share-field n)

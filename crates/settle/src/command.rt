@@ -178,7 +178,6 @@ fn read_bare(command: Command, fields: &[&str]) -> Result<Command, Unread>
 }
 
 fn read_share(heap: Global, fields: &[&str]) -> Result<Command, Unread>
-    requires { ⌜ 0 < length (now fields) ⌝ }
     ensures { λ r. ⌜ Cases r (λ c. getD (texts (now (fields .entry))) 0 [] ≡ codes "share" → Asks (texts (now (fields .entry))) c) (λ u. getD (texts (now (fields .entry))) 0 [] ≡ codes "share" → Wrong (texts (now (fields .entry))) u) ⌝ }
 {
     let rule = read_rule(fields, 1)?;

@@ -6,7 +6,6 @@ use Prim.Native.Nat.{ℕ, zero, suc, _+_, _*_, _<_, _≤_}
 use native.Mathlib.Nat.{zero-mul}
 use native.Mathlib.Omega.{arith}
 use borrow.Author.Differences.{ints}
-use borrow.Author.Tests.{le-ltb}
 use lib.ListN.{length, getD, length-map}
 use lib.IntN.{ℤ, pos, negsuc, natAbs, negℤ, _+ℤ_, _*ℤ_, negℤ-+ℤ, negℤ-negℤ, zero-*ℤ, *ℤ-zero, negsuc-*ℤ-pos}
 use Rattle.std.specs.shelf.Lists.{sum}

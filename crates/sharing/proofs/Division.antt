@@ -1,6 +1,6 @@
 -- Floors of parts of an amount.
-use mathlib.Core.Path.{_≡_, sym, ap, _∙_}
-use Prim.Native.Nat.{ℕ, zero, suc, _+_, _*_, _/_, _<_, _≤_}
+use mathlib.Core.Path.{_≡_, ap, _∙_}
+use Prim.Native.Nat.{ℕ, zero, suc, _*_, _/_, _<_, _≤_}
 use native.Mathlib.Nat.{div-zero, div-mul-le-self, le-div-iff-mul-le, mul-le-mul-left, div-le-of-le-mul, mul-comm, le-trans, mul-zero, zero-div}
 use native.Mathlib.Omega.{arith}
 

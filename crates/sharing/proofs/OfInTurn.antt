@@ -4,7 +4,7 @@ use mathlib.Core.List.{List, [], _∷_, map, _++_}
 use mathlib.Core.Bool.{Bool, true, false, cond, _&&_}
 use mathlib.Core.Logic.{inl, inr}
 use Prim.Native.Nat.{ℕ, zero, suc, _+_, _-_, _*_, _/_, _<_, _≤_, min}
-use native.Mathlib.Nat.{zero-mul, mul-zero, mul-add, add-mul, one-mul, div-zero, div-mul-le-self, lt-div-mul-add, zero-div, le-of-mul-le-mul-right, mul-le-mul-right, mul-le-mul-left, le-trans}
+use native.Mathlib.Nat.{zero-mul, mul-zero, mul-add, add-mul, one-mul, div-zero, div-mul-le-self, lt-div-mul-add, le-of-mul-le-mul-right, mul-le-mul-right, mul-le-mul-left, le-trans}
 use native.Mathlib.Omega.{arith}
 use lib.Dec.{ltb}
 use lib.IntN.{ℤ, pos, natAbs}
@@ -18,7 +18,7 @@ use Rattle.std.proofs.shelf.Tests.{cases-lt, cases-bool, cond-false, and-left, 
 use Rattle.std.proofs.shelf.Ways.{tells}
 use Rattle.sharing.specs.Amounts.{with-sign-of, either-sign}
 use Rattle.sharing.specs.Laws.{Laws}
-use Rattle.sharing.specs.Turns.{floor-share, left-over, has-weight, has-turn, in-turn-share, in-turn, InTurnShares}
+use Rattle.sharing.specs.Turns.{left-over, has-weight, has-turn, in-turn-share, in-turn, InTurnShares}
 use Rattle.sharing.proofs.Division.{quota-none}
 use Rattle.sharing.proofs.BothSigns.{Near, AmountLaws, size-sign, length-either-sign, each-is, laws-of}
 

@@ -1,7 +1,7 @@
 -- What a sharing rule is asked: which questions it accepts, why it refuses the others, and what it leaves.
 use mathlib.Core.Path.{_≡_}
 use mathlib.Core.List.{List, _++_}
-use mathlib.Core.Bool.{Bool, cond, _&&_}
+use mathlib.Core.Bool.{cond, _&&_}
 use Prim.Native.Nat.{ℕ, _<_, _≤_}
 use lib.ListN.{length, drop}
 use lib.Dec.{ltb, eqb}

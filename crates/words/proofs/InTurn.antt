@@ -1,13 +1,13 @@
 -- One question after another: a step, the end, and what the answers say.
 use mathlib.Core.Path.{_≡_, refl, sym, ap, subst, _∙_}
 use mathlib.Core.List.{List, [], _∷_, _++_}
-use mathlib.Core.Logic.{_⊎_, inl, inr}
+use mathlib.Core.Logic.{inl, inr}
 use Prim.Native.Nat.{ℕ, zero, suc, _+_, _-_, _≤_, _<_}
 use native.Mathlib.Omega.{arith}
 use lib.ListN.{length, getD, take, drop, set, replicate}
 use Rattle.std.specs.declared.result.Result.{Result}
 use Rattle.std.specs.declared.result.Result.the-variants.{Ok, Err}
-use Rattle.std.proofs.shelf.Lists.{length-push, getD-push, getD-append-left, take-more-set, take-append-drop, drop-replicate, length-take-le}
+use Rattle.std.proofs.shelf.Lists.{length-push, getD-push, getD-append-left, take-more-set, take-append-drop, drop-replicate, length-take-le, ext-getD}
 use Rattle.std.proofs.shelf.Tests.{cases-lt}
 use Rattle.words.specs.Each.{with-last, each}
 
@@ -84,6 +84,19 @@ module _ {A E : Type 0} (ask : ℕ → Result A E) where
 
   pub a-fault : (n : ℕ) (e : E) → each ask n ≡ Err e → Fault n e
   a-fault n e f = subst (Means n) f (each-means n)
+
+  -- where every question has its answer, these are the answers
+  pub all-answered : (n : ℕ) (xs : List A) (d : A) → length xs ≡ n → ((k : ℕ) → k < n → ask k ≡ Ok (getD xs k d)) → each ask n ≡ Ok xs
+  all-answered n xs d l said = by-means (each ask n) (each-means n)
+    where
+      same : (x y : A) → _≡_ {A = Result A E} (Ok x) (Ok y) → x ≡ y
+      same x y e = cc
+
+      by-means : (r : Result (List A) E) → Means n r → r ≡ Ok xs
+      by-means (Ok ys) m = ap (λ zs. Ok zs) (ext-getD d ys xs (m .one-each ∙ sym l)
+          (λ k h. same (getD ys k d) (getD xs k d) (sym (m .said k d (omega (arith, m .one-each))) ∙ said k (omega (arith, m .one-each)))))
+      by-means (Err e) m = let w : _≡_ {A = Result A E} (Ok (getD xs (m .which) d)) (Err e) = sym (said (m .which) (m .among)) ∙ m .said in
+          let z : _≡_ {A = ℕ} 0 1 = cc in absurd (omega arith)
 
 -- questions with the same answers
 pub same-answers : {A E : Type 0} (ask again : ℕ → Result A E) (n : ℕ) → ((k : ℕ) → k < n → ask k ≡ again k) → each ask n ≡ each again n

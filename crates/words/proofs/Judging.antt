@@ -1,19 +1,18 @@
 -- What the judgement of a word says of it.
 use mathlib.Core.Path.{_≡_, refl, sym, ap, subst, _∙_}
-use mathlib.Core.Bool.{Bool, true, false, cond, _||_}
-use mathlib.Core.List.{List, [], _∷_, _++_}
+use mathlib.Core.Bool.{true, false, _||_}
+use mathlib.Core.List.{List}
 use mathlib.Core.Logic.{_⊎_, inl, inr}
-use Prim.Native.Nat.{ℕ, _+_, _≤_, _<_}
+use Prim.Native.Nat.{ℕ, _≤_, _<_}
 use native.Mathlib.Omega.{arith}
-use lib.Dec.{eqb, ltb}
 use lib.IntN.{ℤ, pos, negℤ}
-use lib.ListN.{length, getD, take}
+use lib.ListN.{length, getD}
 use lib.Signed.{ltZ, _≤ℤ_, _<ℤ_}
 use Rattle.std.specs.Results.{Cases}
 use Rattle.std.specs.declared.result.Result.{Result}
 use Rattle.std.specs.declared.result.Result.the-variants.{Ok, Err}
 use Rattle.std.proofs.shelf.Signed.{by-ltZ, ints}
-use Rattle.std.proofs.shelf.Tests.{cases-lt, cases-eq, cond-true, cond-false, lt-ltb, le-ltb, eq-eqb, ne-eqb}
+use Rattle.std.proofs.shelf.Tests.{cases-lt, cases-eq, cond-true, cond-false, lt-ltb, le-ltb}
 use Rattle.std.proofs.shelf.Ways.{tells}
 use Rattle.words.specs.Split.{kind, content}
 use Rattle.words.specs.Values.{Holds, Within, InOrder, Wrong, bounded, judged, value-at}
@@ -111,3 +110,24 @@ at-word limits at words h = cond-true _ _ _ (lt-ltb _ _ h)
 pub at-end : (limits : Limits) (at : ℕ) (words : List ℕ) → length words ≤ at → value-at limits at words ≡ Err (Ended (length words))
 unfolding value-at
 at-end limits at words h = cond-false _ _ _ (le-ltb _ _ h)
+
+-- a word holds one value at most
+holds-one : (w : ℕ) (a b : ℤ) → Holds w a → Holds w b → a ≡ b
+holds-one w a b (inl p) (inl q) = p .1 ∙ sym (q .1)
+holds-one w a b (inl p) (inr q) = absurd (omega (arith, p .0, q .0))
+holds-one w a b (inr p) (inl q) = absurd (omega (arith, p .0, q .0))
+holds-one w a b (inr p) (inr q) = p .2 ∙ sym (q .2)
+
+-- a value that is in order is read
+pub value-read : (limits : Limits) (at : ℕ) (words : List ℕ) (z : ℤ) → InOrder limits at words z → value-at limits at words ≡ Ok z
+value-read limits at words z i = by-means (value-at limits at words) (value-means limits at words)
+  where
+    none : Holds (getD words at 0) z → (kind (getD words at 0) ≡ 0 → ⊥) → (kind (getD words at 0) ≡ 7 → ⊥) → ⊥
+    none (inl p) plus minus = plus (p .0)
+    none (inr p) plus minus = minus (p .0)
+
+    by-means : (r : Result ℤ WordFault) → Means limits at words r → r ≡ Ok z
+    by-means (Ok y) m = ap (λ x. Ok x) (holds-one (getD words at 0) y z (m .holds) (i .holds))
+    by-means (Err (Ended place)) m = absurd (omega (arith, m .1, i .there))
+    by-means (Err (WrongKind place)) m = absurd (none (i .holds) (m .2) (m .3))
+    by-means (Err (OutOfRange place)) m = absurd (m .3 z (i .holds) (i .within))

@@ -1,5 +1,5 @@
 -- Rows of values: what they say, and that they look at no word behind them.
-use mathlib.Core.Path.{_≡_, refl, sym, ap, subst, _∙_}
+use mathlib.Core.Path.{_≡_, sym, ap, _∙_}
 use mathlib.Core.List.{List, [], _++_}
 use mathlib.Core.Logic.{inl, inr}
 use Prim.Native.Nat.{ℕ, _+_, _-_, _*_, _≤_, _<_, max}
@@ -12,12 +12,11 @@ use Rattle.std.specs.declared.result.Result.the-variants.{Ok, Err}
 use Rattle.std.proofs.shelf.Lists.{length-take-le, length-append, getD-append-left, getD-take}
 use Rattle.std.proofs.shelf.Bits.{mul-le}
 use Rattle.std.proofs.shelf.Tests.{cases-eq}
-use Rattle.words.specs.Values.{InOrder, Wrong, judged, value-at}
+use Rattle.words.specs.Values.{Wrong, judged, value-at}
 use Rattle.words.specs.Faults.{Placed}
-use Rattle.words.specs.Each.{each}
 use Rattle.words.specs.Rows.{nothing-but-zero, row, rows, Row, FirstWrong}
-use Rattle.words.proofs.Judging.{means-of, at-word}
-use Rattle.words.proofs.InTurn.{all-answers, a-fault, same-answers}
+use Rattle.words.proofs.Judging.{means-of, value-read, at-word}
+use Rattle.words.proofs.InTurn.{all-answers, all-answered, a-fault, same-answers}
 use Rattle.words.specs.declared.fault.WordFault.{WordFault}
 use Rattle.words.specs.declared.fault.WordFault.the-variants.{WrongKind, Ended, OutOfRange}
 use Rattle.words.specs.declared.value.Limits.{Limits}
@@ -42,6 +41,11 @@ module _ (limits : List Limits) (at : ℕ) (words : List ℕ) where
         before = λ k h. (let b = a .before k h in (b .0, means-of (getD limits k nothing-but-zero) (at + k) words (Ok (b .0)) (sym (b .1))));
         wrong = means-of (getD limits (a .which) nothing-but-zero) (at + a .which) words (Err f) (sym (a .said));
       }
+
+  -- a row that is in order is read
+  pub row-read : (values : List ℤ) → Row limits at words values → row limits at words ≡ Ok values
+  row-read values r = all-answered asked (length limits) values (pos 0) (r .one-each)
+      (λ k h. value-read (getD limits k nothing-but-zero) (at + k) words (getD values k (pos 0)) (r .in-order k h))
 
   -- a row that is read ends within the words
   pub row-inside : (values : List ℤ) → row limits at words ≡ Ok values → at + length limits ≤ max at (length words)

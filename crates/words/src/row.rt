@@ -1,8 +1,6 @@
 //! Rows of values over a table of limits.
 ghost use mathlib.Core.Path.{_≡_};
-ghost use mathlib.Core.List.{List};
-ghost use Prim.Native.Nat.{ℕ, min};
-ghost use lib.IntN.{ℤ};
+ghost use Prim.Native.Nat.{min};
 ghost use Rattle.std.specs.Results.{Cases};
 ghost use Rattle.words.specs.Rows.{row, rows, padded, Row, FirstWrong};
 use crate::fault::WordFault;

@@ -3,14 +3,12 @@ ghost use mathlib.Core.Path.{_≡_};
 ghost use Prim.Native.Nat.{_*_, _^_, _<_, _≤_};
 ghost use Rattle.charges.specs.Standby.{cost, capacity-factor, availability-factor, incentive-factor, pays, amount-of};
 ghost use Rattle.charges.specs.StandbyLaws.{LawfulPay};
+use crate::block::GREATEST_AMOUNT;
 use crate::fault::BlockFault;
 use crate::rounding::nearest;
 
 /// A factor of one, in millionths.
 const FULL: u64 = 1_000_000;
-
-/// The largest amount in size, in cents.
-const GREATEST_AMOUNT: u128 = 1_000_000_000;
 
 /// Half a year in hours, and all of its hours at ten thousand ten-thousandths.
 const WINDOW_HOURS: u64 = 4_380;

@@ -1,5 +1,5 @@
 //! The command `block`.
-ghost use mathlib.Core.List.{List, []};
+ghost use mathlib.Core.List.{[]};
 ghost use mathlib.Core.Path.{_≡_};
 ghost use Prim.Native.Nat.{ℕ, _^_, _<_};
 ghost use lib.Chars.{codes};
@@ -19,8 +19,8 @@ use charges::Asked;
 use charges::NamedCharge;
 use std::alloc::Global;
 
+/// Reads the fields of a line whose first is `block`.
 pub fn read_block(heap: Global, fields: &[&str]) -> Result<Command, Unread>
-    requires { ⌜ 0 < length (now fields) ⌝ }
     ensures { λ r. ⌜ Cases r (λ c. getD (texts (now (fields .entry))) 0 [] ≡ codes "block" → Asks (texts (now (fields .entry))) c) (λ u. getD (texts (now (fields .entry))) 0 [] ≡ codes "block" → Wrong (texts (now (fields .entry))) u) ⌝ }
 {
     let charge = read_type(fields, 1)?;

@@ -1,9 +1,7 @@
-use mathlib.Core.Path.{_≡_, sym, ap, _∙_}
-use mathlib.Core.List.{List, [], _∷_, _++_, append-nil}
+use mathlib.Core.Path.{ap, _∙_}
 use native.Mathlib.Omega.{arith}
 use lib.IntN.{pos}
-use lib.ListN.{length, replicate, drop, set}
-use Rattle.std.proofs.shelf.Lists.{drop-all}
+use lib.ListN.{set}
 use Rattle.charges.proofs.Filling.{filled-more, filled-all}
 use Rattle.charges.proofs.block.clear.Needs as need
 

@@ -1,8 +1,6 @@
 use mathlib.Core.Path.{sym}
 use mathlib.Core.Logic.{inl, inr}
 use native.Mathlib.Omega.{arith}
-use Rattle.std.proofs.shelf.Ways.{tells}
-use Rattle.charges.specs.Outcome.{judged}
 use Rattle.charges.proofs.Asking.{too-short, too-long, no-room, may-ask}
 use Rattle.charges.proofs.charge.judge_call.Needs as need
 

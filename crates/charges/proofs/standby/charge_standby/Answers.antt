@@ -1,9 +1,6 @@
 use mathlib.Core.Path.{_≡_, sym, ap, _∙_}
-use mathlib.Core.List.{_++_}
-use Prim.Native.Nat.{_≤_}
 use native.Mathlib.Omega.{arith}
-use borrow.Author.Needs.{needs}
-use lib.ListN.{length, take, drop}
+use lib.ListN.{length}
 use Rattle.std.specs.declared.result.Result.the-variants.{Ok, Err}
 use Rattle.std.proofs.shelf.Lists.{length-take-le}
 use Rattle.std.proofs.shelf.Results.{err-from-errBy}
@@ -12,7 +9,7 @@ use Rattle.charges.specs.StandbyBlock.{standby}
 use Rattle.charges.proofs.Asking.{means-of}
 use Rattle.charges.proofs.Delivering.{delivered-answers, delivered-leaves}
 use Rattle.charges.proofs.OfStandbyBlock.{standby-laws}
-use Rattle.charges.proofs.OfStandbyPromise.{standby-says}
+use Rattle.charges.proofs.OfStandbyPromise.{standby-taken, standby-says}
 use Rattle.charges.proofs.standby.charge_standby.Needs as need
 
 pub read-block-requires : need.read-block-requires
@@ -37,7 +34,12 @@ returns-in-Break-judge-call c =
     let verdict : judged (c .args .asked) (length hours) ≡ Err (p .0) = sym (c .judge-call .ensures) ∙ c .in-Break-judge-call .was tt ∙ ap (λ f. Err f) (sym (p .2)) in
     let answers = p .1 ∙ sym (ap (λ j. answer j (standby ws (c .args .asked))) verdict) in
     let leaves = sym (ap (λ j. left-in j (c .args .asked) (standby ws (c .args .asked)) hours) verdict) in
-    record { answers = answers; leaves = leaves; means = standby-says ws (c .args .asked) (length hours) hours (c .from-residual .result) hours answers leaves }
+    record {
+      answers = answers;
+      leaves = leaves;
+      taken = standby-taken ws (c .args .asked) (length hours) hours (c .from-residual .result) answers;
+      means = standby-says ws (c .args .asked) (length hours) hours (c .from-residual .result) hours answers leaves;
+    }
 
 pub returns : need.returns
 returns c =
@@ -47,4 +49,9 @@ returns c =
     let answers = delivered-answers (standby ws (c .args .asked)) _ _ _ (c .in-Continue-judge-call .ensures tt) (c .read-block .ensures) (c .deliver .ensures .answers) in
     let leaves = delivered-leaves standby-laws ws (c .args .asked) hours _ _ _ (m .0) (length-take-le (c .args .asked .hours) hours (m .1))
     (c .in-Continue-judge-call .ensures tt) (c .read-block .ensures) (c .deliver .ensures .leaves) in
-    record { answers = answers; leaves = leaves; means = standby-says ws (c .args .asked) (length hours) hours (c .deliver .result) _ answers leaves }
+    record {
+      answers = answers;
+      leaves = leaves;
+      taken = standby-taken ws (c .args .asked) (length hours) hours (c .deliver .result) answers;
+      means = standby-says ws (c .args .asked) (length hours) hours (c .deliver .result) _ answers leaves;
+    }

@@ -1,8 +1,7 @@
-use mathlib.Core.Path.{_≡_, refl, sym, ap, _∙_}
+use mathlib.Core.Path.{_≡_, sym, ap, _∙_}
 use mathlib.Core.List.{[], _∷_}
-use Prim.Native.Nat.{ℕ, _+_, min}
+use Prim.Native.Nat.{_+_, min}
 use native.Mathlib.Omega.{arith}
-use borrow.Author.Needs.{needs}
 use lib.Dec.{eqb}
 use Rattle.std.specs.declared.result.Result.the-variants.{Ok, Err}
 use Rattle.std.proofs.shelf.Results.{err-from-errBy}
@@ -11,7 +10,6 @@ use Rattle.words.specs.Rows.{rows, padded}
 use Rattle.charges.specs.Blocks.{block-of}
 use Rattle.charges.specs.Chains.{and-then}
 use Rattle.charges.specs.StandbyBlock.{count-limit}
-use Rattle.charges.specs.declared.fault.BlockFault.the-variants.{Word}
 use Rattle.charges.proofs.OfStandbyBlock.{standby-heads, wrong-terms, wrong-counts, no-counts, paid-block}
 use Rattle.charges.proofs.standby.read_block.Needs as need
 

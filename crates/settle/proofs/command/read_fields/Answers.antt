@@ -1,6 +1,5 @@
-use mathlib.Core.Path.{_≡_, refl, sym, ap, subst, _∙_}
+use mathlib.Core.Path.{_≡_, refl, sym, subst, _∙_}
 use native.Mathlib.Omega.{arith}
-use Prim.Native.Nat.{_≤_}
 use lib.ListN.{length, length-map}
 use Rattle.std.proofs.shelf.Results.{cases-weaker}
 use Rattle.settle.specs.Grammar.{texts, Asks, Wrong}

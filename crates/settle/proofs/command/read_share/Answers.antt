@@ -7,7 +7,7 @@ use Rattle.std.specs.Of.Vec.{vec-items}
 use Rattle.std.proofs.shelf.Results.{err-from-errBy}
 use Rattle.std.proofs.shelf.Signed.{toZ-ofZ}
 use Rattle.settle.specs.Grammar.{texts, Writes}
-use Rattle.settle.proofs.Fields.{written-more, wrong-at, in-share, weight-at}
+use Rattle.settle.proofs.Fields.{written-more, wrong-at, named, in-share, weight-at}
 use Rattle.settle.proofs.command.read_share.Needs as need
 
 pub loop-at-again : need.loop-at-again
@@ -33,7 +33,7 @@ pub returns-in-Break-rule : need.returns-in-Break-rule
 returns-in-Break-rule c =
     let l = length-map (c .args .fields .now) (λ f. f .now) in
     let p = err-from-errBy (c .from-residual .result) (c .from-residual .ensures .1) in
-    rw (p .1, p .2) (λ name. wrong-at (texts (c .args .fields .now)) 1 _ _ (omega arith) (in-share (texts (c .args .fields .now)) 0 name) (c .in-Break-rule .ensures tt))
+    rw (p .1, p .2) (λ name. wrong-at (texts (c .args .fields .now)) 1 _ _ (named (texts (c .args .fields .now)) _ _ name) (in-share (texts (c .args .fields .now)) 0 name) (c .in-Break-rule .ensures tt))
 
 pub returns-in-Break-room : need.returns-in-Break-room
 returns-in-Break-room c =

@@ -1,10 +1,10 @@
-use mathlib.Core.Path.{_≡_, ap, sym, _∙_}
-use Prim.Native.Nat.{_*_, _^_, _≤_}
+use mathlib.Core.Path.{_≡_, ap, _∙_}
+use Prim.Native.Nat.{_^_, _≤_}
 use native.Mathlib.Omega.{arith}
 use borrow.Author.Differences.{ints}
 use borrow.Author.Needs.{needs}
 use lib.IntN.{ℤ, pos, natAbs, _+ℤ_}
-use lib.ListN.{length, getD, take}
+use lib.ListN.{getD}
 use mir.Syntax.{w64, w128}
 use mir.Val.{SFits, toZ, ofZ}
 use Rattle.std.proofs.shelf.Lists.{take-all}

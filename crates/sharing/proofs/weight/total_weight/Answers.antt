@@ -1,15 +1,15 @@
 use mathlib.Core.Path.{_≡_, ap, sym, _∙_}
-use mathlib.Core.List.{List, map}
+use mathlib.Core.List.{map}
 use mathlib.Core.Bool.{true, false}
-use Prim.Native.Nat.{ℕ, _+_, _<_, _≤_}
+use Prim.Native.Nat.{_≤_}
 use native.Mathlib.Omega.{arith}
 use borrow.Author.Tests.{le-leb, lt-leb}
-use lib.ListN.{length, getD, take, drop, length-map}
+use lib.ListN.{length, getD, length-map}
 use Rattle.std.specs.shelf.Lists.{sum}
 use Rattle.std.specs.declared.result.Result.the-variants.{Ok, Err}
 use Rattle.std.proofs.shelf.Lists.{take-all}
 use Rattle.std.proofs.shelf.Sums.{leading-drop-yes, leading-drop-no, leading-drop-all}
-use Rattle.sharing.specs.Weights.{greatest-weight, within-limit, before-over}
+use Rattle.sharing.specs.Weights.{within-limit, before-over}
 use Rattle.sharing.specs.declared.fault.ShareFault.the-variants.{WeightOverLimit}
 use Rattle.sharing.proofs.Weighing.{read-item, sum-more, weighed-all, weighed-over}
 use Rattle.sharing.proofs.weight.total_weight.Needs as need

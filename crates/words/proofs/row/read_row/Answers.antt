@@ -1,9 +1,8 @@
-use mathlib.Core.Path.{_≡_, refl, sym, ap, _∙_}
-use mathlib.Core.List.{_∷_, []}
-use Prim.Native.Nat.{_+_, _≤_, _<_, max}
+use mathlib.Core.Path.{_≡_, sym, ap, _∙_}
+use Prim.Native.Nat.{_+_, _<_}
 use native.Mathlib.Omega.{arith}
 use borrow.Author.Needs.{needs}
-use lib.ListN.{length, getD, take}
+use lib.ListN.{length, take}
 use mir.Syntax.{w32}
 use mir.Val.{toZ, ofZ}
 use Rattle.std.specs.declared.result.Result.the-variants.{Ok, Err}
@@ -11,8 +10,7 @@ use Rattle.std.proofs.shelf.Lists.{take-all, length-replicate, length-set}
 use Rattle.std.proofs.shelf.Results.{err-from-errBy}
 use Rattle.std.proofs.shelf.Signed.{toZ-ofZ}
 use Rattle.words.specs.Each.{each}
-use Rattle.words.specs.Rows.{nothing-but-zero, row}
-use Rattle.words.specs.Values.{value-at}
+use Rattle.words.specs.Rows.{row}
 use Rattle.words.proofs.InTurn.{none-asked, more-written, stops}
 use Rattle.words.proofs.Rowing.{asked, row-means}
 use Rattle.words.proofs.row.read_row.Needs as need

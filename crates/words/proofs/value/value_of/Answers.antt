@@ -2,10 +2,9 @@ use mathlib.Core.Path.{_≡_, sym, ap, _∙_}
 use Prim.Native.Nat.{_^_, _≤_, _<_}
 use native.Mathlib.Omega.{arith}
 use borrow.Author.Needs.{needs}
-use lib.IntN.{ℤ, pos, negℤ}
 use Rattle.std.proofs.shelf.Signed.{ints}
 use Rattle.std.proofs.shelf.Bits.{mod-below}
-use Rattle.words.specs.Split.{kind, content}
+use Rattle.words.specs.Split.{content}
 use Rattle.words.specs.Values.{bounded}
 use Rattle.words.proofs.Judging.{is-plus, is-minus, is-minus-zero, is-other}
 use Rattle.words.proofs.value.value_of.Needs as need

@@ -1,11 +1,10 @@
 use mathlib.Core.Path.{_≡_}
 use native.Mathlib.Omega.{arith}
-use borrow.Author.Needs.{needs}
 use lib.ListN.{length, length-map}
 use Rattle.std.specs.Of.Vec.{vec-items}
 use Rattle.std.proofs.shelf.Results.{err-from-errBy}
 use Rattle.settle.specs.Grammar.{texts, WritesWord}
-use Rattle.settle.proofs.Fields.{written-more, wrong-at, in-block, word-at}
+use Rattle.settle.proofs.Fields.{written-more, wrong-at, named, in-block, word-at}
 use Rattle.settle.proofs.command.block.read_block.Needs as need
 
 pub loop-at-again : need.loop-at-again
@@ -17,7 +16,7 @@ returns-in-Break-charge c =
     let fields = texts (c .args .fields .now) in
     let l = length-map (c .args .fields .now) (λ f. f .now) in
     let p = err-from-errBy (c .from-residual .result) (c .from-residual .ensures .1) in
-    rw (p .1, p .2) (λ name. wrong-at fields 1 _ _ (omega arith) (in-block fields 0 name) (c .in-Break-charge .ensures tt))
+    rw (p .1, p .2) (λ name. wrong-at fields 1 _ _ (named fields _ _ name) (in-block fields 0 name) (c .in-Break-charge .ensures tt))
 
 pub returns-in-Break-hours : need.returns-in-Break-hours
 returns-in-Break-hours c =

@@ -1,17 +1,16 @@
-use mathlib.Core.Path.{_≡_, refl, ap, sym, _∙_}
-use mathlib.Core.List.{List, map}
-use mathlib.Core.Bool.{cond, _&&_}
-use Prim.Native.Nat.{ℕ, _+_, _-_, _*_, _/_, _<_, _≤_}
+use mathlib.Core.Path.{_≡_, ap, sym, _∙_}
+use mathlib.Core.List.{map}
+use mathlib.Core.Bool.{cond}
+use Prim.Native.Nat.{_+_, _-_, _*_, _/_}
 use native.Mathlib.Omega.{arith}
 use borrow.Author.Needs.{needs}
-use lib.ListN.{length, getD, take, length-map}
-use lib.IntN.{ℤ, natAbs}
+use lib.ListN.{length, getD, length-map}
+use lib.IntN.{natAbs}
 use mir.Val.{toZ, ofZ}
 use mir.Syntax.{w64}
-use Rattle.std.specs.shelf.Lists.{sum, countBy}
 use Rattle.std.proofs.shelf.Signed.{toZ-ofZ}
 use Rattle.sharing.specs.Amounts.{with-sign-of}
-use Rattle.sharing.specs.Turns.{floor-share, left-over, has-weight, has-turn, in-turn-share, in-turn}
+use Rattle.sharing.specs.Turns.{floor-share, has-turn, in-turn-share, in-turn}
 use Rattle.sharing.proofs.OfInTurn.{turn-is, turns-left}
 use Rattle.sharing.proofs.Weighing.{read-item, sum-within}
 use Rattle.sharing.proofs.Writing.{written-more, kept-more, shares-written}

@@ -1,7 +1,6 @@
-use mathlib.Core.Path.{_≡_, sym, ap, subst, _∙_}
-use Prim.Native.Nat.{_+_, _-_, _*_, _/_, _<_, _≤_}
+use mathlib.Core.Path.{sym, ap, subst, _∙_}
+use Prim.Native.Nat.{_-_, _*_, _/_, _≤_}
 use native.Mathlib.Omega.{arith}
-use Rattle.charges.specs.Standby.{capacity-factor}
 use Rattle.charges.proofs.OfStandby.{capacity-missed, capacity-most}
 use Rattle.charges.proofs.standby.terms.Capacity.factor.Needs as need
 

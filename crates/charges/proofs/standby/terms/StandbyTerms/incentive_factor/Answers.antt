@@ -1,10 +1,10 @@
-use mathlib.Core.Path.{_≡_, sym, ap, subst, _∙_}
-use Prim.Native.Nat.{_*_, _/_, _^_, _≤_, _<_}
+use mathlib.Core.Path.{sym, ap, subst, _∙_}
+use Prim.Native.Nat.{_^_, _<_}
 use native.Mathlib.Omega.{arith}
 use borrow.Author.Needs.{needs}
 use mir.Syntax.{w32}
 use mir.Val.{Fits}
-use Rattle.charges.specs.Standby.{earned-incentive, capacity-factor, availability-factor}
+use Rattle.charges.specs.Standby.{earned-incentive, capacity-factor}
 use Rattle.charges.proofs.OfStandby.{earned-bound}
 use Rattle.charges.proofs.standby.terms.StandbyTerms.incentive_factor.Needs as need
 
