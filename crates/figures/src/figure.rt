@@ -99,14 +99,12 @@ pub impl fmt::Display for Figure as FigureDisplay {
                 total,
                 weights,
                 shares,
-            } => {
-                write!(
-                    f,
-                    "{total} over {} by the {rule} rule: {}",
-                    Three(*weights),
-                    Three(*shares)
-                )
-            }
+            } => write!(
+                f,
+                "{total} over {} by the {rule} rule: {}",
+                Three(*weights),
+                Three(*shares)
+            ),
             Figure::CapacityFactor { capacity, factor } => {
                 write!(f, "{}: C {factor}", Shown(*capacity))
             }

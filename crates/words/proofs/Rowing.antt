@@ -1,17 +1,19 @@
 -- Rows of values: what they say, and that they look at no word behind them.
 use mathlib.Core.Path.{_≡_, sym, ap, _∙_}
+use mathlib.Core.Bool.{true}
 use mathlib.Core.List.{List, [], _++_}
 use mathlib.Core.Logic.{inl, inr}
 use Prim.Native.Nat.{ℕ, _+_, _-_, _*_, _≤_, _<_, max}
 use native.Mathlib.Omega.{arith}
 use lib.IntN.{ℤ, pos}
 use lib.ListN.{length, getD, take}
-use Rattle.std.specs.Results.{Cases}
+use Rattle.std.specs.Orderings.{Decides}
+use Rattle.std.specs.Results.{Cases, isOk}
 use Rattle.std.specs.declared.result.Result.{Result}
 use Rattle.std.specs.declared.result.Result.the-variants.{Ok, Err}
 use Rattle.std.proofs.shelf.Lists.{length-take-le, length-append, getD-append-left, getD-take}
 use Rattle.std.proofs.shelf.Bits.{mul-le}
-use Rattle.std.proofs.shelf.Tests.{cases-eq}
+use Rattle.std.proofs.shelf.Tests.{cases-eq, false≢true}
 use Rattle.words.specs.Values.{Wrong, judged, value-at}
 use Rattle.words.specs.Faults.{Placed}
 use Rattle.words.specs.Rows.{nothing-but-zero, row, rows, Row, FirstWrong}
@@ -46,6 +48,14 @@ module _ (limits : List Limits) (at : ℕ) (words : List ℕ) where
   pub row-read : (values : List ℤ) → Row limits at words values → row limits at words ≡ Ok values
   row-read values r = all-answered asked (length limits) values (pos 0) (r .one-each)
       (λ k h. value-read (getD limits k nothing-but-zero) (at + k) words (getD values k (pos 0)) (r .in-order k h))
+
+  -- a row is read exactly when it is in order
+  pub row-taken : (r : Result (List ℤ) WordFault) → r ≡ row limits at words → Decides (isOk r) ((values : List ℤ) × Row limits at words values)
+  row-taken r e = (λ t. of-ok r e t, λ v. ap isOk (e ∙ row-read (v .0) (v .1)))
+    where
+      of-ok : (r : Result (List ℤ) WordFault) → r ≡ row limits at words → isOk r ≡ true → (values : List ℤ) × Row limits at words values
+      of-ok (Ok values) e t = (values, row-means (Ok values) e)
+      of-ok (Err f) e t = absurd (false≢true t)
 
   -- a row that is read ends within the words
   pub row-inside : (values : List ℤ) → row limits at words ≡ Ok values → at + length limits ≤ max at (length words)

@@ -1,7 +1,10 @@
 //! Rows of values over a table of limits.
+ghost use mathlib.Core.List.{List};
 ghost use mathlib.Core.Path.{_≡_};
 ghost use Prim.Native.Nat.{min};
-ghost use Rattle.std.specs.Results.{Cases};
+ghost use lib.IntN.{ℤ};
+ghost use Rattle.std.specs.Orderings.{Decides};
+ghost use Rattle.std.specs.Results.{Cases, isOk};
 ghost use Rattle.words.specs.Rows.{row, rows, padded, Row, FirstWrong};
 use crate::fault::WordFault;
 use crate::value::Limits;
@@ -14,6 +17,7 @@ pub fn read_row<const N: usize>(
     limits: [Limits; N],
 ) -> Result<[i32; N], WordFault>
     ensures is { λ r. ⌜ r ≡ row (limits .entry) at (now (words .entry)) ⌝ }
+    ensures taken { λ r. ⌜ Decides (isOk r) ((values : List ℤ) × Row (limits .entry) at (now (words .entry)) values) ⌝ }
     ensures means { λ r. ⌜ Cases r (λ values. Row (limits .entry) at (now (words .entry)) values) (λ f. FirstWrong (limits .entry) at (now (words .entry)) f) ⌝ }
 {
     let mut values = [0; N];

@@ -12,7 +12,7 @@ use Rattle.std.proofs.shelf.Signed.{toZ-ofZ}
 use Rattle.words.specs.Each.{each}
 use Rattle.words.specs.Rows.{row}
 use Rattle.words.proofs.InTurn.{none-asked, more-written, stops}
-use Rattle.words.proofs.Rowing.{asked, row-means}
+use Rattle.words.proofs.Rowing.{asked, row-means, row-taken}
 use Rattle.words.proofs.row.read_row.Needs as need
 
 pub loop-i-holds : need.loop-i-holds
@@ -26,7 +26,7 @@ returns-in-Break-values g c =
     let p = err-from-errBy (c .from-residual .result) (c .from-residual .ensures .1) in
     let said : asked ls (c .args .at) ws (c .loop-i .i) ≡ Err (p .0) = sym (c .read-value .ensures .is) ∙ c .in-Break-values .was tt ∙ ap (λ f. Err f) (sym (p .2)) in
     let e : c .from-residual .result ≡ row ls (c .args .at) ws = p .1 ∙ sym (stops (asked ls (c .args .at) ws) (c .loop-i .i) (length ls) _ (p .0) (omega arith) (c .loop-i .inv .2) said) in
-    record { is = e; means = row-means ls (c .args .at) ws (c .from-residual .result) e }
+    record { is = e; taken = row-taken ls (c .args .at) ws (c .from-residual .result) e; means = row-means ls (c .args .at) ws (c .from-residual .result) e }
 
 pub loop-i-again : need.loop-i-again
 loop-i-again g c =
@@ -53,4 +53,4 @@ returns g c =
     let all : take (c .loop-i .i) (c .loop-i .values) ≡ c .loop-i .values = take-all (c .loop-i .i) (c .loop-i .values) (omega (arith, c .loop-i .inv .0)) in
     let e : Ok (c .loop-i .values) ≡ row ls (c .args .at) ws =
     sym (ap (each (asked ls (c .args .at) ws)) (sym i) ∙ c .loop-i .inv .2 ∙ ap (λ l. Ok l) all) in
-    record { is = e; means = row-means ls (c .args .at) ws (Ok (c .loop-i .values)) e }
+    record { is = e; taken = row-taken ls (c .args .at) ws (Ok (c .loop-i .values)) e; means = row-means ls (c .args .at) ws (Ok (c .loop-i .values)) e }
