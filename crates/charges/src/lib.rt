@@ -1,6 +1,8 @@
 //! What a unit's block of a day file pays in each hour: the trait of a charge type, two types as one, and the types.
 //!
 //! Amounts are whole cents; a payment to the unit is negative.
+#![tactic(auto)]
+
 pub mod block;
 pub mod both;
 pub mod charge;

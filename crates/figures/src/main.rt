@@ -1,4 +1,6 @@
 //! Prints the starred figures, which are proved, and tries them and the others on the engine.
+#![tactic(auto)]
+
 mod figure;
 mod others;
 mod starred;

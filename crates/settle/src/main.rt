@@ -1,4 +1,6 @@
 //! The desk: reads commands from standard input, one a line, and writes one answer a command.
+#![tactic(auto)]
+
 mod answer;
 mod command;
 mod desk;

@@ -1,6 +1,8 @@
 //! Who bears how much of a total: weights, the trait of a sharing rule with its laws, and two rules.
 //!
 //! The crate knows nothing of what is shared. An amount is a whole number of cents, a payment negative.
+#![tactic(auto)]
+
 pub mod fault;
 pub mod rule;
 #[cfg(test)]

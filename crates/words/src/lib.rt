@@ -1,4 +1,6 @@
 //! A day file's words: their parts, values within limits, rows of values, and what can be wrong with a word.
+#![tactic(auto)]
+
 pub mod fault;
 pub mod head;
 pub mod row;

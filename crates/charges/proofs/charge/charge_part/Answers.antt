@@ -6,7 +6,7 @@ use Rattle.charges.proofs.charge.charge_part.Goals as goal
 
 pub returns : goal.returns
 returns g c =
-    let type = c.args.charge-type.now in
+    let type = c.args.charge_type.now in
     let ws = c.args.words.now in
     let asked = c.args.asked in
     let memory = c.args.memory.now in

@@ -9,43 +9,43 @@ use Rattle.charges.specs.OfStandbyBlock.{standby_laws}
 use Rattle.charges.proofs.OfStandbyPromise.{standby_taken, standby_says}
 use Rattle.charges.proofs.standby.charge_standby.Goals as goal
 
-pub read-block-requires : goal.read-block-requires
-read-block-requires c = (means_of c.args.asked _ (Ok tt) c.in-ok-judge-call.ensures).0.1
+pub read_block-requires : goal.read_block-requires
+read_block-requires c = (means_of c.args.asked _ (Ok tt) c.in_ok-judge_call.ensures).0.1
 
-pub slice-bounds-deliver-end : goal.slice-bounds-deliver-end
-slice-bounds-deliver-end c = (means_of c.args.asked _ (Ok tt) c.in-ok-judge-call.ensures).1
+pub slice_bounds-deliver-end : goal.slice_bounds-deliver-end
+slice_bounds-deliver-end c = (means_of c.args.asked _ (Ok tt) c.in_ok-judge_call.ensures).1
 
-pub slice-bounds-deliver-end-2 : goal.slice-bounds-deliver-end-2
-slice-bounds-deliver-end-2 c = sym (length-take-le c.args.asked.hours c.args.hours.now (means_of c.args.asked _ (Ok tt) c.in-ok-judge-call.ensures).1)
+pub slice_bounds-deliver-end-2 : goal.slice_bounds-deliver-end-2
+slice_bounds-deliver-end-2 c = sym (length-take-le c.args.asked.hours c.args.hours.now (means_of c.args.asked _ (Ok tt) c.in_ok-judge_call.ensures).1)
 
 pub deliver-requires : goal.deliver-requires
 deliver-requires c =
-    let m = means_of c.args.asked _ (Ok tt) c.in-ok-judge-call.ensures in
+    let m = means_of c.args.asked _ (Ok tt) c.in_ok-judge_call.ensures in
     omega (arith, m.0.1, length-take-le c.args.asked.hours c.args.hours.now m.1)
 
-pub returns-in-err-judge-call : goal.returns-in-err-judge-call
-returns-in-err-judge-call c =
+pub returns-in_err-judge_call : goal.returns-in_err-judge_call
+returns-in_err-judge_call c =
     let ws = c.args.words.now in
     let hours = c.args.hours.now in
-    let p = err_from_is_err_and c.from-residual.result c.from-residual.ensures.1 in
-    let verdict : judged c.args.asked (length hours) ≡ Err p.0 = sym c.judge-call.ensures ∙ c.in-err-judge-call.was ∙ ap (λ f. Err f) (sym p.2) in
+    let p = err_from_is_err_and c.from_residual.result c.from_residual.ensures.1 in
+    let verdict : judged c.args.asked (length hours) ≡ Err p.0 = sym c.judge_call.ensures ∙ c.in_err-judge_call.was ∙ ap (λ f. Err f) (sym p.2) in
     let answers = p.1 ∙ sym (ap (λ j. answer j (standby ws c.args.asked)) verdict) in
     let leaves = sym (ap (λ j. left_in j c.args.asked (standby ws c.args.asked) hours) verdict) in
     record {
       answers = answers;
       leaves = leaves;
-      taken = standby_taken ws c.args.asked (length hours) hours c.from-residual.result answers;
-      means = standby_says ws c.args.asked (length hours) hours c.from-residual.result hours answers leaves;
+      taken = standby_taken ws c.args.asked (length hours) hours c.from_residual.result answers;
+      means = standby_says ws c.args.asked (length hours) hours c.from_residual.result hours answers leaves;
     }
 
 pub returns : goal.returns
 returns c =
     let ws = c.args.words.now in
     let hours = c.args.hours.now in
-    let m = means_of c.args.asked _ (Ok tt) c.in-ok-judge-call.ensures in
-    let answers = delivered_answers (standby ws c.args.asked) _ _ _ c.in-ok-judge-call.ensures c.read-block.ensures c.deliver.ensures.answers in
+    let m = means_of c.args.asked _ (Ok tt) c.in_ok-judge_call.ensures in
+    let answers = delivered_answers (standby ws c.args.asked) _ _ _ c.in_ok-judge_call.ensures c.read_block.ensures c.deliver.ensures.answers in
     let leaves = delivered_leaves standby_laws ws c.args.asked hours _ _ _ m.0 (length-take-le c.args.asked.hours hours m.1)
-    c.in-ok-judge-call.ensures c.read-block.ensures c.deliver.ensures.leaves in
+    c.in_ok-judge_call.ensures c.read_block.ensures c.deliver.ensures.leaves in
     record {
       answers = answers;
       leaves = leaves;

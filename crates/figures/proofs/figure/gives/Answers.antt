@@ -7,7 +7,7 @@ use Rattle.sharing.specs.Question.{answer}
 use Rattle.sharing.specs.Judging.{when_accepted, refused_or_accepted}
 use Rattle.sharing.specs.OfNamed.{plain_verdict, plain_shares}
 use Rattle.figures.proofs.figure.gives.Goals as goal
-use Rattle.std.proofs.lemmas.Bool.Decides.{Decides-eqb}
+use Rattle.std.proofs.lemmas.Bool.Decides.{Decides-int_eq}
 
 pub returns-in-Ok : goal.returns-in-Ok
 returns-in-Ok c =
@@ -18,7 +18,7 @@ returns-in-Ok c =
     let alike = ap (λ n. ltb n (length ws)) (sym three) in
     let a = c.in-Ok.ensures.answers in
     let out = plain_shares rule (length ws) 3 c.args.total _ ws t alike _ c.apportion.new.out (omega arith) a c.in-Ok.ensures.leaves in
-    let equal = slice_eq-Decides Decides-eqb _ _ _ c.eq.ensures in (
+    let equal = slice_eq-Decides Decides-int_eq _ _ _ c.eq.ensures in (
       λ same. (when_accepted (most_by rule) (length ws) c.args.total ws (a ∙ ap answer (plain_verdict rule (length ws) 3 c.args.total _ ws t alike)), sym out ∙ equal.0 same),
       λ h. equal.1 (out ∙ h.1),
     )

@@ -13,8 +13,8 @@ amounts-more front amounts i line field h e f =
     ∙ ap (with_amounts front) (sym (take_more amounts i (pos 0) h))
 
 pub loop-amount-preserved : goal.loop-amount-preserved
-loop-amount-preserved c = c.in-ok-push-str.ensures.bytes
-    ∙ amounts-more _ c.args.amounts.now c.loop-amount.amount-index _ _ c.loop-amount-test.true c.loop-amount.invariant (c.as-str.ensures.value ∙ c.in-ok-field.ensures.ok)
+loop-amount-preserved c = c.in_ok-push_str.ensures.bytes
+    ∙ amounts-more _ c.args.amounts.now c.loop-amount.amount-index _ _ c.loop-amount-test.true c.loop-amount.invariant (c.as_str.ensures.value ∙ c.in_ok-field.ensures.ok)
 
 pub returns : goal.returns
 returns c = c.loop-amount.invariant ∙ ap (with_amounts _) (take_all c.loop-amount.amount-index c.args.amounts.now c.loop-amount-test.false)

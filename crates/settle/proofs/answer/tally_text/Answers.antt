@@ -10,7 +10,7 @@ in_two whole front back a b e f g = e ∙ ap (λ l. l ++ back) f ∙ ap (λ l. a
 pub returns : goal.returns
 returns c =
     let t = c.args.tally in
-    let head = c.in-ok-line.ensures.ok
+    let head = c.in_ok-line.ensures.ok
     ∙ ap (λ z. sharing_report t.shared t.refused t.unread z (to_z w128 (of_z w128 t.shares))) (to_z-of_z w128 t.totals (search rules))
     ∙ ap (sharing_report t.shared t.refused t.unread t.totals) (to_z-of_z w128 t.shares (search rules)) in
-    in_two _ _ _ _ _ c.in-ok-push-str.ensures.bytes head (c.as-str.ensures.value ∙ c.in-ok-rest.ensures)
+    in_two _ _ _ _ _ c.in_ok-push_str.ensures.bytes head (c.as_str.ensures.value ∙ c.in_ok-rest.ensures)

@@ -12,4 +12,4 @@ returns c =
       | else-line-gt0-via-then-line-gt0+else-line-eq35 w ↦ w.if-line-eq35.false e
       | else-line-gt0-via-else-line-gt0 w ↦ omega (arith, get_or_past line 0 0 w.if-line-gt0.false)
     ] in
-    c.is-blank.ensures ∙ sym (ap (λ (b : Bool). b || blank line) (ne_eqb (get_or line 0 0) 35 other))
+    c.is_blank.ensures ∙ sym (ap (λ (b : Bool). b || blank line) (ne_eqb (get_or line 0 0) 35 other))

@@ -1,4 +1,4 @@
-use Rattle.std.proofs.Common.{◌≡◌, ◌^◌, ◌≤◌, get_or, ℤ, pos, ◌+ℤ◌, nat_abs, ap, ◌∙◌, arith, w64, SFits, to_z, of_z, rules}
+use Rattle.std.proofs.Common.{◌≡◌, ◌^◌, ◌≤◌, get_or, pos, ◌+ℤ◌, nat_abs, ap, ◌∙◌, arith, w64, SFits, to_z, of_z, rules}
 use borrow.Author.Differences.{ints}
 use mir.Syntax.{w128}
 use Rattle.std.proofs.lemmas.List.{take_all}
@@ -15,15 +15,15 @@ read c =
     let e : c.from-sum.result ≡ x = c.from-sum.ensures ∙ to_z-of_z w64 x f in
     (e, omega (arith, ap nat_abs e, size_fits w64 x f))
 
-pub overflow-add-sum : goal.overflow-add-sum
-overflow-add-sum c =
+pub overflow_add-sum : goal.overflow_add-sum
+overflow_add-sum c =
     let r = read c in
     omega (arith, ints, size_sum c.loop-amount.sum c.from-sum.result)
 
 pub loop-amount-preserved : goal.loop-amount-preserved
 loop-amount-preserved c =
     let r = read c in
-    let e = to_z-of_z w128 _ (overflow-add-sum c)
+    let e = to_z-of_z w128 _ (overflow_add-sum c)
     ∙ ap (λ y. y +ℤ to_z w128 (of_z w128 c.from-sum.result)) c.loop-amount.sum-is
     ∙ ap (λ y. c.loop-amount.sum +ℤ y) (to_z-of_z w128 c.from-sum.result (search rules)) in (
       e ∙ omega (arith, ints, r.0, sum_ℤ_more c.args.amounts.now c.loop-amount.amount-index c.loop-amount-test.true),

@@ -27,8 +27,8 @@ returns g c =
     let l : length ws ≤ before_over ws = omega (arith, prefix_len-drop_all within_limit ws i h) in
     ap (λ n. Ok n) e ∙ sym (weighed_all ws l)
 
-pub returns-then-weight-gt-GREATEST-WEIGHT : goal.returns-then-weight-gt-GREATEST-WEIGHT
-returns-then-weight-gt-GREATEST-WEIGHT g c =
+pub returns-then-weight-gt-GREATEST_WEIGHT : goal.returns-then-weight-gt-GREATEST_WEIGHT
+returns-then-weight-gt-GREATEST_WEIGHT g c =
     let f = g.T.Weighted.weight in
     let ws = map f c.args.items.now in
     let i = c.loop-place.place in

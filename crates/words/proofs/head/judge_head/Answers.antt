@@ -18,4 +18,4 @@ returns-in-Some-3 c =
     let some : 0 < length ws = search rules in
     let head = c.in-Some.ensures.item.1 ∙ front ws _ some in
     let none : stray (get_or ws 0 0) ≡ false = search (rules, head) in
-    ap (λ p. Ok p) (c.party-of.ensures ∙ ap party head) ∙ sym (good_head c.args.fits ws some (search rules) none)
+    ap (λ p. Ok p) (c.party_of.ensures ∙ ap party head) ∙ sym (good_head c.args.fits ws some (search rules) none)

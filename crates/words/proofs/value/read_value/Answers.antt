@@ -8,7 +8,7 @@ pub returns-in-Some : goal.returns-in-Some
 returns-in-Some c =
     let ws = c.args.words.now in
     let h : c.args.at < length ws = grind (arith, nat_tests) in
-    let e = c.value-of.ensures ∙ ap (judged c.args.limits c.args.at) (search rules) ∙ sym (at_word c.args.limits c.args.at ws h) in
+    let e = c.value_of.ensures ∙ ap (judged c.args.limits c.args.at) (search rules) ∙ sym (at_word c.args.limits c.args.at ws h) in
     record { is = e; means = means_of c.args.limits c.args.at ws _ e }
 
 pub returns-in-None : goal.returns-in-None

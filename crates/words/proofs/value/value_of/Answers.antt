@@ -10,7 +10,7 @@ pub returns-in-0 : goal.returns-in-0
 returns-in-0 c =
     let w = c.args.word in
     let small : content w < 2 ^ 28 = mod_below w (2 ^ 28) (omega arith) in
-    c.within.ensures ∙ ap (λ z. bounded c.args.limits c.args.place z) (omega (arith, ints, small, c.content-of-size.ensures))
+    c.within.ensures ∙ ap (λ z. bounded c.args.limits c.args.place z) (omega (arith, ints, small, c.content_of-size.ensures))
     ∙ sym (is_plus _ _ w (omega arith))
 
 pub returns-in-7 : goal.returns-in-7
@@ -18,7 +18,7 @@ returns-in-7 c =
     let w = c.args.word in
     let small : content w < 2 ^ 28 = mod_below w (2 ^ 28) (omega arith) in
     let some : 1 ≤ content w = grind (arith, ints) in
-    c.within-in-7.ensures ∙ ap (λ z. bounded c.args.limits c.args.place z) (omega (arith, ints, small, c.content-of-size.ensures))
+    c.within-in-7.ensures ∙ ap (λ z. bounded c.args.limits c.args.place z) (omega (arith, ints, small, c.content_of-size.ensures))
     ∙ sym (is_minus _ _ w (omega arith) some)
 
 pub returns-in-7-2 : goal.returns-in-7-2
@@ -28,5 +28,5 @@ returns-in-7-2 c =
     let none : content w ≡ 0 = grind (arith, ints) in
     sym (is_minus_zero _ _ w (omega arith) none)
 
-pub returns-in-default : goal.returns-in-default
-returns-in-default c = sym (is_other _ _ c.args.word (search rules) (search rules))
+pub returns-in_default : goal.returns-in_default
+returns-in_default c = sym (is_other _ _ c.args.word (search rules) (search rules))

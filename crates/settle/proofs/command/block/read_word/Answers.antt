@@ -5,5 +5,5 @@ use Rattle.settle.proofs.command.block.read_word.Goals as goal
 
 pub returns-in-None : goal.returns-in-None
 returns-in-None c =
-    let text = c.in-ok-field-text.ensures in
+    let text = c.in_ok-field_text.ensures in
     (refl, refl, omega (arith, length-map c.args.fields.now (λ f. f.now), text.0), subst (λ (t : List ℕ). (n : ℕ) → WritesWord t n → n < 2 ^ 32 → ⊥) text.1 c.in-None.ensures)

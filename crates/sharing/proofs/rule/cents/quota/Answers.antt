@@ -3,13 +3,13 @@ use Rattle.sharing.specs.Question.{greatest_total}
 use Rattle.sharing.specs.Division.{quota_bound}
 use Rattle.sharing.proofs.rule.cents.quota.Goals as goal
 
-pub overflow-mul-result : goal.overflow-mul-result
-overflow-mul-result c =
+pub overflow_mul-result : goal.overflow_mul-result
+overflow_mul-result c =
     let h : c.from.result * c.args.part ≤ greatest_total * c.args.part = mul-le-mul_right c.args.part (omega arith) in
     omega arith
 
-pub overflow-cast-result : goal.overflow-cast-result
-overflow-cast-result c = omega (arith, quota_bound c.from.result c.args.all c.args.part c.requires.within)
+pub overflow_cast-result : goal.overflow_cast-result
+overflow_cast-result c = omega (arith, quota_bound c.from.result c.args.all c.args.part c.requires.within)
 
 pub returns : goal.returns
 returns c =

@@ -25,8 +25,8 @@ one_more g c =
     c.quota-given.ensures.value ∙ ap (λ n. c.args.amount * n / c.args.all) w ∙ ap (λ n. c.args.amount * get_or ws i 0 / n) c.requires.all in
     omega (arith, q, sum_by_more (floor_share c.args.amount ws) ws i 0 r.there)
 
-pub overflow-add-given : goal.overflow-add-given
-overflow-add-given g c =
+pub overflow_add-given : goal.overflow_add-given
+overflow_add-given g c =
     let ws = map g.T.Weighted.weight c.args.items.now in
     let i = c.loop-item.item-index in
     omega (arith, one_more g c, floors_within c.args.amount (sum ws) (take (i + 1) ws) (sum_by-take-le (λ x. x) ws (i + 1)))

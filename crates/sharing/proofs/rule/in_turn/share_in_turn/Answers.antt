@@ -7,10 +7,10 @@ use Rattle.sharing.specs.OfInTurn.{in_turn_shares, in_turn_amounts}
 use Rattle.sharing.specs.Judging.{admitted, shared}
 use Rattle.sharing.proofs.rule.in_turn.share_in_turn.Goals as goal
 
-pub write-in-turn-requires : goal.write-in-turn-requires
-write-in-turn-requires g c =
+pub write_in_turn-requires : goal.write_in_turn-requires
+write_in_turn-requires g c =
     let l = length-map c.args.items.now g.T.Weighted.weight in
-    let a = admitted _ _ _ _ _ _ c.greatest.type-inv (sym l) c.in-ok-all.ensures in
+    let a = admitted _ _ _ _ _ _ c.greatest.type_inv (sym l) c.in_ok-all.ensures in
     record { small = a.small; all = a.all; bound = a.bound; room = a.room }
 
 pub returns : goal.returns
@@ -18,7 +18,7 @@ returns g c =
     let ws = map g.T.Weighted.weight c.args.items.now in
     let l : length ws ≡ length c.args.items.now = length-map c.args.items.now g.T.Weighted.weight in
     let t = to_z-of_z w64 c.args.total c.ranges.total in
-    let p = shared in_turn_amounts _ _ _ _ c.args.total _ ws _ c.args.out.now _ t c.greatest.ensures (sym l) c.in-ok-all.ensures c.write-in-turn.ensures in
-    let e : c.write-in-turn.new.out ≡ either_sign in_turn c.args.total ws ++ drop (length c.args.items.now) c.args.out.now =
-    c.write-in-turn.ensures ∙ ap (λ z. either_sign in_turn z ws ++ drop (length c.args.items.now) c.args.out.now) t in
+    let p = shared in_turn_amounts _ _ _ _ c.args.total _ ws _ c.args.out.now _ t c.greatest.ensures (sym l) c.in_ok-all.ensures c.write_in_turn.ensures in
+    let e : c.write_in_turn.new.out ≡ either_sign in_turn c.args.total ws ++ drop (length c.args.items.now) c.args.out.now =
+    c.write_in_turn.ensures ∙ ap (λ z. either_sign in_turn z ws ++ drop (length c.args.items.now) c.args.out.now) t in
     record { answers = p.0; leaves = p.1; turns = subst (InTurnShares c.args.total ws) (sym e) (in_turn_shares c.args.total ws _) }

@@ -1,7 +1,7 @@
-use Rattle.std.proofs.Common.{◌≡◌, ◌+◌, ◌-◌, ◌*◌, ◌/◌, cond, map, length, get_or, nat_abs, sym, ap, ◌∙◌, arith, w64, to_z, of_z, rules}
+use Rattle.std.proofs.Common.{◌≡◌, ◌+◌, ◌*◌, ◌/◌, cond, map, length, get_or, nat_abs, sym, ap, ◌∙◌, arith, w64, to_z, of_z, rules}
 use lib.ListN.{length-map}
 use Rattle.std.proofs.lemmas.Int.{to_z-of_z}
-use Rattle.sharing.specs.Amounts.{with-sign-of}
+use Rattle.sharing.specs.Amounts.{with_sign_of}
 use Rattle.sharing.specs.Turns.{floor_share, has_turn, in_turn_share, in_turn}
 use Rattle.sharing.specs.OfInTurn.{turn_is, turns_left}
 use Rattle.sharing.specs.Weighing.{read_item, sum_within}
@@ -11,14 +11,14 @@ use Rattle.sharing.proofs.rule.in_turn.write_in_turn.Goals as goal
 pub floors-requires : goal.floors-requires
 floors-requires g c =
     let t = to_z-of_z w64 c.args.total c.ranges.total in
-    record { small = omega (arith, c.unsigned-abs-amount.ensures.value, ap nat_abs t, c.requires.small); all = c.requires.all; bound = c.requires.bound }
+    record { small = omega (arith, c.unsigned_abs-amount.ensures.value, ap nat_abs t, c.requires.small); all = c.requires.all; bound = c.requires.bound }
 
 pub quota-requires : goal.quota-requires
 quota-requires g c =
     let r = read_item g.T.Weighted.weight c.args.items.now c.loop-i.i _ _ c.loop-i-test.true c.index-items-i.is c.weight-weight.ensures in
     let t = to_z-of_z w64 c.args.total c.ranges.total in
     record {
-      small = omega (arith, c.unsigned-abs-amount.ensures.value, ap nat_abs t, c.requires.small);
+      small = omega (arith, c.unsigned_abs-amount.ensures.value, ap nat_abs t, c.requires.small);
       within = omega (arith, sum_within r, c.requires.all);
       bound = c.requires.bound;
     }
@@ -28,21 +28,21 @@ loop-i-preserved g c =
     let ws = map g.T.Weighted.weight c.args.items.now in
     let i = c.loop-i.i in
     let w = get_or ws i 0 in
-    let amount = c.unsigned-abs-amount.result in
-    let extra = c.extra-cent-extra.result in
+    let amount = c.unsigned_abs-amount.result in
+    let extra = c.extra_cent-extra.result in
     let z = to_z w64 (of_z w64 c.args.total) in
-    let v = to_z w64 (of_z w64 c.with-sign-of.result) in
+    let v = to_z w64 (of_z w64 c.with_sign_of.result) in
     let r = read_item g.T.Weighted.weight c.args.items.now i _ _ c.loop-i-test.true c.index-items-i.is c.weight-weight.ensures in
     let weight : c.from.result ≡ w = omega arith in
-    let turn : extra ≡ cond (has_turn amount ws i) 1 0 = turn_is amount ws i c.weight-weight.result c.loop-i.left extra r.is c.loop-i.invariant.0 c.extra-cent-extra.ensures in
+    let turn : extra ≡ cond (has_turn amount ws i) 1 0 = turn_is amount ws i c.weight-weight.result c.loop-i.left extra r.is c.loop-i.invariant.0 c.extra_cent-extra.ensures in
     let floor : c.quota.result ≡ floor_share amount ws w =
     c.quota.ensures.value ∙ ap (λ n. amount * n / c.args.all) weight ∙ ap (λ n. amount * w / n) c.requires.all in
-    let same : v ≡ with-sign-of z (in_turn_share amount ws i) =
-    to_z-of_z w64 c.with-sign-of.result (search rules) ∙ c.with-sign-of.ensures
-    ∙ ap (λ n. with-sign-of z (n + extra)) floor ∙ ap (λ n. with-sign-of z (floor_share amount ws w + n)) turn in (
+    let same : v ≡ with_sign_of z (in_turn_share amount ws i) =
+    to_z-of_z w64 c.with_sign_of.result (search rules) ∙ c.with_sign_of.ensures
+    ∙ ap (λ n. with_sign_of z (n + extra)) floor ∙ ap (λ n. with_sign_of z (floor_share amount ws w + n)) turn in (
       turns_left amount ws i c.loop-i.left extra r.there c.loop-i.invariant.0 turn,
       kept_more c.loop-i.out c.args.out.now i v c.loop-i.invariant.1,
-      written_more (λ k. with-sign-of z (in_turn_share amount ws k)) c.loop-i.out i v (omega arith) same c.loop-i.invariant.2,
+      written_more (λ k. with_sign_of z (in_turn_share amount ws k)) c.loop-i.out i v (omega arith) same c.loop-i.invariant.2,
     )
 
 pub returns : goal.returns
@@ -52,4 +52,4 @@ returns g c =
     let l : length ws ≡ length c.args.items.now = length-map c.args.items.now g.T.Weighted.weight in
     let t = to_z-of_z w64 c.args.total c.ranges.total in
     shares_written in_turn_share c.args.total _ _ ws c.loop-i.out c.args.out.now c.loop-i.i _
-    t (c.unsigned-abs-amount.ensures.value ∙ ap nat_abs t) (omega arith) (sym l) c.loop-i.invariant.2 c.loop-i.invariant.1
+    t (c.unsigned_abs-amount.ensures.value ∙ ap nat_abs t) (omega arith) (sym l) c.loop-i.invariant.2 c.loop-i.invariant.1

@@ -5,7 +5,7 @@ use Rattle.charges.proofs.standby.terms.Capacity.factor.Goals as goal
 pub returns : goal.returns
 returns c =
     let k = c.args.self.now in
-    let e = ap (λ m. 1000000 * m / c.from-contract.result) c.saturating-sub.ensures
+    let e = ap (λ m. 1000000 * m / c.from-contract.result) c.saturating_sub.ensures
     ∙ ap (λ m. 1000000 * (2 * m - c.from-contract.result) / c.from-contract.result) c.from-tested.ensures
     ∙ ap (λ m. 1000000 * (2 * k.tested_kw - m) / m) c.from-contract.ensures
     ∙ sym (capacity_missed k (omega arith)) in
