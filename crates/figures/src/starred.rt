@@ -1,6 +1,6 @@
 //! The starred figures: worked examples that are proved of the definitions, in one list.
 ghost use Rattle.std.specs.Prelude.{◌≡◌};
-ghost use Rattle.std.specs.List.{AllByRecursion as All};
+ghost use Rattle.std.specs.List.{AllByRecursion};
 ghost use Rattle.figures.specs.Starred.{starred, Holds};
 
 use crate::figure::Figure;
@@ -13,7 +13,7 @@ pub const COUNT: usize = 9;
 /// The list, which is proved to hold.
 pub fn starred_figures() -> [Figure; COUNT]
     ensures listed { result ≡ starred }
-    ensures hold { All Holds result }
+    ensures hold { AllByRecursion Holds result }
 {
     let weights = [1, 1, 1];
     let availability = Availability {

@@ -1,5 +1,5 @@
-use Rattle.std.proofs.Common.{◌≡◌, ◌<◌, false, length, get_or, Ok, sym, ap, ◌∙◌, rules}
-use Rattle.words.specs.Split.{party, stray}
+use Rattle.std.proofs.Common.{◌≡◌, ◌<◌, false, length, get_or, sym, ◌∙◌, rules}
+use Rattle.words.specs.Split.{stray}
 use Rattle.words.proofs.Heading.{front, no_head, unfit_head, stray_head, good_head}
 use Rattle.words.proofs.head.judge_head.Goals as goal
 
@@ -18,4 +18,5 @@ returns-in-Some-3 c =
     let some : 0 < length ws = search rules in
     let head = c.in-Some.ensures.item.1 ∙ front ws _ some in
     let none : stray (get_or ws 0 0) ≡ false = search (rules, head) in
-    ap (λ p. Ok p) (c.party_of.ensures ∙ ap party head) ∙ sym (good_head c.args.fits ws some (search rules) none)
+    let good = good_head c.args.fits ws some (search rules) none in
+    cc
