@@ -5,7 +5,7 @@ ghost use Rattle.charges.specs.Faults.{number_of, place_of, layer_of, reason_of}
 ghost use Rattle.charges.specs.declared.fault.BlockFault.TheVariants.{Word as WordOf};
 ghost use Rattle.charges.specs.declared.fault.ChargeFault.TheVariants.{Block as BlockOf};
 
-use sharing::Layer;
+use sharing::{Fault, Layer, Notice};
 use std::fmt;
 use words::WordFault;
 
@@ -28,44 +28,21 @@ impl From<WordFault> for BlockFault {
     }
 }
 
-impl BlockFault {
-    pub fn number(&self) -> u32
-        ensures { result ≡ number_in_block self.now }
-    {
-        match self {
-            BlockFault::Word(fault) => fault.number(),
-            BlockFault::Contradiction => 7,
-            BlockFault::AmountOverLimit => 8,
-        }
-    }
+impl Fault for BlockFault {
+    ghost number_of = { number_in_block };
 
-    /// The place of the word at fault, counted from the block's head; the head's own for the other faults.
-    pub fn place(&self) -> usize
-        ensures { result ≡ place_in_block self.now }
-    {
-        match self {
-            BlockFault::Word(fault) => fault.place(),
-            _ => 0,
-        }
-    }
+    ghost place_of = { place_in_block };
 
-    pub fn layer(&self) -> Layer
-        ensures { result ≡ layer_in_block self.now }
-    {
-        match self {
-            BlockFault::Word(fault) => fault.layer(),
-            _ => Layer::Block,
-        }
-    }
+    ghost layer_of = { layer_in_block };
 
-    /// The fault in plain words.
-    pub fn reason(&self) -> &'static str
-        ensures { result.now ≡ reason_in_block self.now }
-    {
-        match self {
-            BlockFault::Word(fault) => fault.reason(),
-            BlockFault::Contradiction => "the block contradicts itself",
-            BlockFault::AmountOverLimit => "an amount over the limit",
+    ghost reason_of = { reason_in_block };
+
+    /// Places count from the block's head, which is also the place of the whole block's faults.
+    fn notice(&self) -> Notice {
+        match *self {
+            Self::Word(fault) => fault.notice(),
+            Self::Contradiction => Layer::Block.notice(7, 0, "the block contradicts itself"),
+            Self::AmountOverLimit => Layer::Block.notice(8, 0, "an amount over the limit"),
         }
     }
 }
@@ -89,43 +66,20 @@ impl From<BlockFault> for ChargeFault {
     }
 }
 
-impl ChargeFault {
-    pub fn number(&self) -> u32
-        ensures { result ≡ number_of self.now }
-    {
-        match self {
-            ChargeFault::Block(fault) => fault.number(),
-            ChargeFault::NoRoom => 13,
-            ChargeFault::HoursOutOfRange => 24,
-        }
-    }
+impl Fault for ChargeFault {
+    ghost number_of = { number_of };
 
-    pub fn place(&self) -> usize
-        ensures { result ≡ place_of self.now }
-    {
-        match self {
-            ChargeFault::Block(fault) => fault.place(),
-            _ => 0,
-        }
-    }
+    ghost place_of = { place_of };
 
-    pub fn layer(&self) -> Layer
-        ensures { result ≡ layer_of self.now }
-    {
-        match self {
-            ChargeFault::Block(fault) => fault.layer(),
-            _ => Layer::Call,
-        }
-    }
+    ghost layer_of = { layer_of };
 
-    /// The fault in plain words.
-    pub fn reason(&self) -> &'static str
-        ensures { result.now ≡ reason_of self.now }
-    {
-        match self {
-            ChargeFault::Block(fault) => fault.reason(),
-            ChargeFault::NoRoom => "memory for the hours too short",
-            ChargeFault::HoursOutOfRange => "not the hours of a day",
+    ghost reason_of = { reason_of };
+
+    fn notice(&self) -> Notice {
+        match *self {
+            Self::Block(fault) => fault.notice(),
+            Self::NoRoom => Layer::Call.notice(13, 0, "memory for the hours too short"),
+            Self::HoursOutOfRange => Layer::Call.notice(24, 0, "not the hours of a day"),
         }
     }
 }

@@ -5,7 +5,7 @@ ghost use Rattle.settle.specs.Lines.{with_amounts, refused_line, refusal_line, b
 use crate::command::Unread;
 use crate::tally::Tally;
 use charges::ChargeFault;
-use sharing::{Layer, ShareFault};
+use sharing::{Fault, Layer, ShareFault};
 use std::alloc::{AllocError, Global};
 
 /// What the engine refused, and why.

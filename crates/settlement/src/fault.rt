@@ -6,7 +6,7 @@ ghost use Rattle.settlement.specs.Faults.{number_of, place_of, layer_of, reason_
 ghost use Rattle.settlement.specs.declared.fault.SettleFault.TheVariants.{File as FileOf};
 
 use charges::BlockFault;
-use sharing::Layer;
+use sharing::{Fault, Layer, Notice};
 use std::fmt;
 
 /// What is wrong with a day file. Places count the file's words from 0, hours the day's.
@@ -30,58 +30,41 @@ pub enum FileFault {
     NoLoad { hour: usize },
 }
 
-impl FileFault {
-    pub fn number(&self) -> u32
-        ensures { result ≡ number_in_file self.now }
-    {
-        match self {
-            FileFault::Length => 1,
-            FileFault::Block { place: _, fault } => fault.number(),
-            FileFault::NotRising { place: _ } => 5,
-            FileFault::TooManyBlocks { place: _ } => 6,
-            FileFault::TotalOverLimit { hour: _ } => 9,
-            FileFault::NoLoad { hour: _ } => 10,
-            FileFault::WrongDay => 11,
-            FileFault::TooManyLoads => 12,
-        }
-    }
+impl Fault for FileFault {
+    ghost number_of = { number_in_file };
+
+    ghost place_of = { place_in_file };
+
+    ghost layer_of = { layer_in_file };
+
+    ghost reason_of = { reason_in_file };
 
     /// The place of the word or head at fault, or the hour; 0 for the other faults.
-    pub fn place(&self) -> usize
-        ensures { result ≡ place_in_file self.now }
-    {
-        match self {
-            FileFault::Block { place, fault: _ } => *place,
-            FileFault::NotRising { place } => *place,
-            FileFault::TooManyBlocks { place } => *place,
-            FileFault::TotalOverLimit { hour } => *hour,
-            FileFault::NoLoad { hour } => *hour,
-            _ => 0,
-        }
-    }
-
-    pub fn layer(&self) -> Layer
-        ensures { result ≡ layer_in_file self.now }
-    {
-        match self {
-            FileFault::Block { place: _, fault } => fault.layer(),
-            _ => Layer::File,
-        }
-    }
-
-    /// The fault in plain words.
-    pub fn reason(&self) -> &'static str
-        ensures { result.now ≡ reason_in_file self.now }
-    {
-        match self {
-            FileFault::Length => "the file is empty or too long",
-            FileFault::Block { place: _, fault } => fault.reason(),
-            FileFault::WrongDay => "the file is of another day",
-            FileFault::NotRising { place: _ } => "load parties do not rise",
-            FileFault::TooManyBlocks { place: _ } => "too many unit blocks",
-            FileFault::TooManyLoads => "more loads than the rule's greatest count",
-            FileFault::TotalOverLimit { hour: _ } => "an hour's total over the limit",
-            FileFault::NoLoad { hour: _ } => "no load in an hour whose total is not zero",
+    fn notice(&self) -> Notice {
+        match *self {
+            Self::Length => Layer::File.notice(1, 0, "the file is empty or too long"),
+            Self::Block { place, fault } => Notice {
+                place,
+                ..fault.notice()
+            },
+            Self::NotRising { place } => Layer::File.notice(5, place, "load parties do not rise"),
+            Self::TooManyBlocks { place } => Layer::File.notice(6, place, "too many unit blocks"),
+            Self::TotalOverLimit { hour } => Layer::File.notice(
+                9,
+                hour,
+                "an hour's total over the limit",
+            ),
+            Self::NoLoad { hour } => Layer::File.notice(
+                10,
+                hour,
+                "no load in an hour whose total is not zero",
+            ),
+            Self::WrongDay => Layer::File.notice(11, 0, "the file is of another day"),
+            Self::TooManyLoads => Layer::File.notice(
+                12,
+                0,
+                "more loads than the rule's greatest count",
+            ),
         }
     }
 }
@@ -114,41 +97,19 @@ impl From<FileFault> for SettleFault {
     }
 }
 
-impl SettleFault {
-    pub fn number(&self) -> u32
-        ensures { result ≡ number_of self.now }
-    {
-        match self {
-            SettleFault::File(fault) => fault.number(),
-            SettleFault::NoRoom => 13,
-        }
-    }
+impl Fault for SettleFault {
+    ghost number_of = { number_of };
 
-    pub fn place(&self) -> usize
-        ensures { result ≡ place_of self.now }
-    {
-        match self {
-            SettleFault::File(fault) => fault.place(),
-            SettleFault::NoRoom => 0,
-        }
-    }
+    ghost place_of = { place_of };
 
-    pub fn layer(&self) -> Layer
-        ensures { result ≡ layer_of self.now }
-    {
-        match self {
-            SettleFault::File(fault) => fault.layer(),
-            SettleFault::NoRoom => Layer::Call,
-        }
-    }
+    ghost layer_of = { layer_of };
 
-    /// The fault in plain words.
-    pub fn reason(&self) -> &'static str
-        ensures { result.now ≡ reason_of self.now }
-    {
-        match self {
-            SettleFault::File(fault) => fault.reason(),
-            SettleFault::NoRoom => "memory for the table too short",
+    ghost reason_of = { reason_of };
+
+    fn notice(&self) -> Notice {
+        match *self {
+            Self::File(fault) => fault.notice(),
+            Self::NoRoom => Layer::Call.notice(13, 0, "memory for the table too short"),
         }
     }
 }

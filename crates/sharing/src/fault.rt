@@ -1,5 +1,6 @@
 //! Why a question is refused, and the engine's layers that refusals belong to.
-ghost use Rattle.std.specs.Prelude.{◌≡◌, Some};
+ghost use Rattle.std.specs.Prelude.{◌≡◌, ℕ, List, Some};
+ghost use Rattle.sharing.specs.declared.fault.Layer.{Layer};
 ghost use Rattle.sharing.specs.Faults.{number_of, place_of, layer_of, layer_name, reason_of};
 
 use std::fmt;
@@ -29,6 +30,72 @@ impl fmt::Display for Layer {
     }
 }
 
+/// What a refusal tells whoever asked.
+#[derive(Clone, Copy, PartialEq, Eq, Debug)]
+pub struct Notice {
+    pub number: u32,
+    /// Where the fault is; 0 where it has no place.
+    pub place: usize,
+    pub layer: Layer,
+    /// The fault in plain words.
+    pub reason: &'static str,
+}
+
+impl Layer {
+    /// The notice of one of the layer's faults.
+    pub fn notice(self, number: u32, place: usize, reason: &'static str) -> Notice
+        ensures { (result.number ≡ number) × (result.place ≡ place) × (result.layer ≡ self) × (result.reason.now ≡ reason.now) }
+    {
+        Notice {
+            number,
+            place,
+            layer: self,
+            reason,
+        }
+    }
+}
+
+/// Why something is refused: each layer has an enum of its faults, and each fault a notice.
+pub trait Fault {
+    ghost number_of: { Self → ℕ };
+
+    ghost place_of: { Self → ℕ };
+
+    ghost layer_of: { Self → Layer };
+
+    ghost reason_of: { Self → List ℕ };
+
+    fn notice(&self) -> Notice
+        ensures number { result.number ≡ number_of self.now }
+        ensures place { result.place ≡ place_of self.now }
+        ensures layer { result.layer ≡ layer_of self.now }
+        ensures reason { result.reason.now ≡ reason_of self.now };
+
+    fn number(&self) -> u32
+        ensures { result ≡ number_of self.now }
+    {
+        self.notice().number
+    }
+
+    fn place(&self) -> usize
+        ensures { result ≡ place_of self.now }
+    {
+        self.notice().place
+    }
+
+    fn layer(&self) -> Layer
+        ensures { result ≡ layer_of self.now }
+    {
+        self.notice().layer
+    }
+
+    fn reason(&self) -> &'static str
+        ensures { result.now ≡ reason_of self.now }
+    {
+        self.notice().reason
+    }
+}
+
 /// The first fault of a question that a sharing rule refuses.
 #[derive(Clone, Copy, PartialEq, Eq, Debug)]
 pub enum ShareFault {
@@ -44,49 +111,34 @@ pub enum ShareFault {
     NoWeight,
 }
 
-impl ShareFault {
-    pub fn number(&self) -> u32
-        ensures { result ≡ number_of self.now }
-    {
-        match self {
-            ShareFault::WeightOverLimit { place: _ } => 4,
-            ShareFault::TotalOverLimit => 9,
-            ShareFault::NoWeight => 10,
-            ShareFault::TooManyWeights => 12,
-            ShareFault::NoRoom => 13,
-        }
-    }
+impl Fault for ShareFault {
+    ghost number_of = { number_of };
 
-    pub fn place(&self) -> usize
-        ensures { result ≡ place_of self.now }
-    {
-        match self {
-            ShareFault::WeightOverLimit { place } => *place,
-            _ => 0,
-        }
-    }
+    ghost place_of = { place_of };
 
-    pub fn layer(&self) -> Layer
-        ensures { result ≡ layer_of self.now }
-    {
-        match self {
-            ShareFault::WeightOverLimit { place: _ } => Layer::Word,
-            ShareFault::TooManyWeights | ShareFault::TotalOverLimit | ShareFault::NoWeight =>
-                Layer::File,
-            ShareFault::NoRoom => Layer::Call,
-        }
-    }
+    ghost layer_of = { layer_of };
 
-    /// The fault in plain words.
-    pub fn reason(&self) -> &'static str
-        ensures { result.now ≡ reason_of self.now }
-    {
-        match self {
-            ShareFault::NoRoom => "memory for the shares too short",
-            ShareFault::TooManyWeights => "more weights than the rule's greatest count",
-            ShareFault::WeightOverLimit { place: _ } => "a weight over the limit",
-            ShareFault::TotalOverLimit => "the total over the limit",
-            ShareFault::NoWeight => "no weight at all for a total that is not zero",
+    ghost reason_of = { reason_of };
+
+    fn notice(&self) -> Notice {
+        match *self {
+            Self::WeightOverLimit { place } => Layer::Word.notice(
+                4,
+                place,
+                "a weight over the limit",
+            ),
+            Self::TotalOverLimit => Layer::File.notice(9, 0, "the total over the limit"),
+            Self::NoWeight => Layer::File.notice(
+                10,
+                0,
+                "no weight at all for a total that is not zero",
+            ),
+            Self::TooManyWeights => Layer::File.notice(
+                12,
+                0,
+                "more weights than the rule's greatest count",
+            ),
+            Self::NoRoom => Layer::Call.notice(13, 0, "memory for the shares too short"),
         }
     }
 }

@@ -9,7 +9,7 @@ pub mod rule;
 mod tests;
 pub mod weight;
 
-pub use fault::{Layer, ShareFault};
+pub use fault::{Fault, Layer, Notice, ShareFault};
 pub use rule::in_turn::InTurn;
 pub use rule::named::NamedRule;
 pub use rule::running::Running;

@@ -1,5 +1,5 @@
 //! Each limit at and one past it, the order of refusals, and what they leave.
-use crate::fault::{Layer, ShareFault};
+use crate::fault::{Fault, Layer, ShareFault};
 use crate::rule::in_turn::InTurn;
 use crate::rule::running::Running;
 use crate::rule::{SharingRule, apportion};

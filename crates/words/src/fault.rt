@@ -1,8 +1,8 @@
 //! What can be wrong with a word.
-ghost use Rattle.std.specs.Prelude.{◌≡◌, Some};
+ghost use Rattle.std.specs.Prelude.{Some};
 ghost use Rattle.words.specs.Faults.{number_of, place_of, layer_of, reason_of};
 
-use sharing::Layer;
+use sharing::{Fault, Layer, Notice};
 use std::fmt;
 
 /// The first fault of a list of words; `place` counts words from 0.
@@ -16,42 +16,28 @@ pub enum WordFault {
     OutOfRange { place: usize },
 }
 
-impl WordFault {
-    pub fn number(&self) -> u32
-        ensures { result ≡ number_of self.now }
-    {
-        match self {
-            WordFault::WrongKind { place: _ } => 2,
-            WordFault::Ended { place: _ } => 3,
-            WordFault::OutOfRange { place: _ } => 4,
-        }
-    }
+impl Fault for WordFault {
+    ghost number_of = { number_of };
 
-    pub fn place(&self) -> usize
-        ensures { result ≡ place_of self.now }
-    {
-        match self {
-            WordFault::WrongKind { place } => *place,
-            WordFault::Ended { place } => *place,
-            WordFault::OutOfRange { place } => *place,
-        }
-    }
+    ghost place_of = { place_of };
 
-    pub fn layer(&self) -> Layer
-        ensures { result ≡ layer_of self.now }
-    {
-        Layer::Word
-    }
+    ghost layer_of = { layer_of };
 
-    /// The fault in plain words.
-    pub fn reason(&self) -> &'static str
-        ensures { result.now ≡ reason_of self.now }
-    {
-        match self {
-            WordFault::WrongKind { place: _ } => "a kind that cannot stand there",
-            WordFault::Ended { place: _ } => "the words end inside a block",
-            WordFault::OutOfRange { place: _ } =>
+    ghost reason_of = { reason_of };
+
+    fn notice(&self) -> Notice {
+        match *self {
+            Self::WrongKind { place } => Layer::Word.notice(
+                2,
+                place,
+                "a kind that cannot stand there",
+            ),
+            Self::Ended { place } => Layer::Word.notice(3, place, "the words end inside a block"),
+            Self::OutOfRange { place } => Layer::Word.notice(
+                4,
+                place,
                 "a value out of range, stray head bits or minus zero",
+            ),
         }
     }
 }
