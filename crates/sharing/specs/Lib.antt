@@ -5,6 +5,7 @@ pub mod Laws
 pub mod Amounts
 pub mod Prefixes
 pub mod Turns
+pub mod Dealing
 pub mod Consequences
 pub mod Named
 pub mod OfInTurn

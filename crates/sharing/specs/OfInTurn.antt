@@ -8,7 +8,7 @@ use Rattle.std.proofs.lemmas.List.{take_all, take-take, get_or_append_left}
 use Rattle.std.proofs.lemmas.List.Sums.{sum_by-cons, sum_by_more, sum_by-take-le}
 use Rattle.std.proofs.lemmas.Bool.{cases_lt, cases_Bool, cond-false, and_left, and_parts, and_from, lt-ltb, ltb-true}
 use Rattle.std.proofs.lemmas.Bool.Decides.{nat_tests}
-use Rattle.sharing.specs.Amounts.{with_sign_of, either_sign}
+use Rattle.sharing.specs.Amounts.{with_sign_of, either_sign, by_place}
 use Rattle.sharing.specs.Laws.{Laws}
 use Rattle.sharing.specs.Turns.{left_over, has_weight, has_turn, in_turn_share, in_turn, InTurnShares}
 use Rattle.sharing.specs.Division.{quota_none}
@@ -143,6 +143,16 @@ turns_left t ws i left extra h e x =
     let c = count_by has_weight (take i ws) in
     let k : count_by has_weight (take (i + 1) ws) ≡ c + cond (has_weight (slice_index ws i)) 1 0 = sum_by_more (λ y. cond (has_weight y) 1 0) ws i 0 h in
     ap (λ n. n - extra) e ∙ ap (λ n. (left_over t ws - c) - n) x ∙ one_less (has_weight (slice_index ws i)) c (left_over t ws) ∙ ap (λ n. left_over t ws - n) (sym k)
+
+pub in_turn_each : (t : ℕ) (ws : List ℕ) → in_turn t ws ≡ by_place (in_turn_share t ws) ws
+unfolding in_turn
+in_turn_each t ws = refl
+
+-- before the sharer at place k gets its share: the cents left over, less those that were taken
+pub record ReadyAt (amount all left t : ℕ) (ws : List ℕ) (k : ℕ) : Type 0 where
+  pub amount_is : amount ≡ t
+  pub all_is : all ≡ sum ws
+  pub left_is : left ≡ left_over t ws - count_by has_weight (take k ws)
 
 pub in_turn_amounts : AmountLaws in_turn
 in_turn_amounts = record {

@@ -1,5 +1,5 @@
 -- The running rule keeps the laws, and its shares add up as its sentence says.
-use Rattle.std.specs.Prelude.{◌≡◌, ℕ, zero, suc, ◌+◌, ◌-◌, ◌*◌, ◌/◌, ◌<◌, ◌≤◌, List, ◌++◌, map, length, take, ℤ, sum, slice_index, slice_index_or, unsigned_abs}
+use Rattle.std.specs.Prelude.{◌≡◌, ℕ, zero, suc, ◌+◌, ◌-◌, ◌*◌, ◌/◌, ◌<◌, ◌≤◌, List, ◌++◌, map, length, take, ℤ, sum, slice_index, slice_index_or, unsigned_abs, refl}
 use Rattle.std.proofs.Common.{sym, subst, ◌∙◌, zero-mul, mul-add, add-mul, div-mul-le_self, mul-div_cancel, arith, inl, inr}
 use Rattle.std.proofs.Math.Path.{ap}
 use Rattle.std.proofs.Math.Nat.{lt-div-mul-add, zero-div}
@@ -8,7 +8,7 @@ use Rattle.std.proofs.lemmas.List.FromFn.{length-map-range_with_len, get_or-map-
 use Rattle.std.proofs.lemmas.List.{take_all, take-take, take-append-le, take-map}
 use Rattle.std.proofs.lemmas.List.Sums.{sum_by_more, sum_by-take-le}
 use Rattle.std.proofs.lemmas.Bool.{cases_lt}
-use Rattle.sharing.specs.Amounts.{with_sign_of, either_sign}
+use Rattle.sharing.specs.Amounts.{with_sign_of, either_sign, by_place}
 use Rattle.sharing.specs.Laws.{sum_ℤ, Laws}
 use Rattle.sharing.specs.Prefixes.{given_to_first, running_share, running, RunningSums}
 use Rattle.sharing.specs.Division.{quota_more, quota_none}
@@ -72,6 +72,17 @@ one_each_running t ws = length-map-range_with_len (running_share t ws) 0 (length
 adds_up_running : (t : ℕ) (ws : List ℕ) → (sum ws ≡ 0 → t ≡ 0) → sum (running t ws) ≡ t
 unfolding running
 adds_up_running t ws borne = telescope t ws (length ws) ∙ all_given t ws borne
+
+pub running_each : (t : ℕ) (ws : List ℕ) → running t ws ≡ by_place (running_share t ws) ws
+unfolding running
+running_each t ws = refl
+
+-- before the sharer at place k gets its share: the weight of those before it, and what they were given
+pub record ReadyAt (amount all weight_so_far given t : ℕ) (ws : List ℕ) (k : ℕ) : Type 0 where
+  pub amount_is : amount ≡ t
+  pub all_is : all ≡ sum ws
+  pub weights : weight_so_far ≡ sum (take k ws)
+  pub given_is : given ≡ given_to_first t ws k
 
 pub running_amounts : AmountLaws running
 running_amounts = record {

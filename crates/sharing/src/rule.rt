@@ -1,5 +1,6 @@
 //! The trait of a sharing rule, and the questions that a rule accepts.
-mod cents;
+pub mod cents;
+pub mod dealing;
 pub mod in_turn;
 pub mod named;
 pub mod running;

@@ -4,8 +4,6 @@ ghost use Rattle.sharing.specs.Named.{shares_by, most_by, name_of};
 ghost use Rattle.sharing.specs.OfNamed.{named_laws};
 
 use crate::fault::ShareFault;
-use crate::rule::in_turn::share_in_turn;
-use crate::rule::running::share_running;
 use crate::rule::{SharingRule, in_turn, running};
 use crate::weight::Weighted;
 use std::fmt;
@@ -37,8 +35,8 @@ impl SharingRule for NamedRule {
         out: &mut [i64],
     ) -> Result<(), ShareFault> {
         match self {
-            NamedRule::Running => share_running(total, items, out),
-            NamedRule::InTurn => share_in_turn(total, items, out),
+            NamedRule::Running => running::Running.share(total, items, out),
+            NamedRule::InTurn => in_turn::InTurn.share(total, items, out),
         }
     }
 }

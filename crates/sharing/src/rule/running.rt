@@ -1,17 +1,16 @@
 //! The running rule: the first k sharers together get the floor of their part.
-ghost use Rattle.std.specs.Prelude.{◌≡◌, ◌^◌, ◌<◌, ◌≤◌, ◌++◌, map, length, drop, sum, OnOk, unsigned_abs};
 ghost use Rattle.sharing.specs.Amounts.{either_sign};
-ghost use Rattle.sharing.specs.Prefixes.{running, RunningSums};
-ghost use Rattle.sharing.specs.Question.{greatest_total, judged, answer, left_in};
-ghost use Rattle.sharing.specs.OfRunning.{running_laws};
+ghost use Rattle.sharing.specs.Prefixes.{running, running_share, RunningSums};
+ghost use Rattle.sharing.specs.OfRunning.{ReadyAt, running_each, running_amounts, running_sums, running_laws};
 
 use crate::fault::ShareFault;
-use crate::rule::cents::{quota, with_sign_of};
-use crate::rule::{SharingRule, judge};
+use crate::rule::SharingRule;
+use crate::rule::cents::Division;
+use crate::rule::dealing::{Dealer, share_by};
 use crate::weight::Weighted;
 
 /// Each sharer gets what the floor rises by when the sharer joins those before.
-#[derive(Clone, Copy)]
+#[derive(Clone, Copy, PartialEq, Eq, Debug)]
 pub struct Running;
 
 impl SharingRule for Running {
@@ -22,7 +21,7 @@ impl SharingRule for Running {
     ghost fair = { λ rule. running_laws };
 
     fn greatest(&self) -> usize {
-        64
+        RunningDealer::greatest()
     }
 
     fn share<T: Weighted>(
@@ -31,41 +30,53 @@ impl SharingRule for Running {
         items: &[T],
         out: &mut [i64],
     ) -> Result<(), ShareFault> {
-        share_running(total, items, out)
+        share_by::<RunningDealer, T>(total, items, out)
     }
 }
 
-/// The rule's `share`, with the rule's own sentence.
-pub fn share_running<T: Weighted>(
-    total: i64,
-    items: &[T],
-    out: &mut [i64],
-) -> Result<(), ShareFault>
-    ensures answers { result ≡ answer (judged 64 (length out.old) total (map T.Weighted.weight items.now)) }
-    ensures leaves { out.new ≡ left_in (judged 64 (length out.old) total (map T.Weighted.weight items.now)) (either_sign running total (map T.Weighted.weight items.now)) out.old }
-    ensures sums { OnOk result (RunningSums total (map T.Weighted.weight items.now) out.new) }
-{
-    let room = out.len();
-    let all = judge(Running.greatest(), room, total, items)?;
-    write_running(total, all, items, out);
-    Ok(())
+/// How much weight the sharers so far have, and what they were given together.
+#[derive(Clone, Copy)]
+pub struct RunningDealer {
+    pub division: Division,
+    pub weight_so_far: u128,
+    pub given: u64,
 }
 
-fn write_running<T: Weighted>(total: i64, all: u128, items: &[T], out: &mut [i64])
-    requires small { unsigned_abs total ≤ greatest_total }
-    requires all { all ≡ sum (map T.Weighted.weight items.now) }
-    requires bound { all < 2 ^ 96 }
-    requires room { length items.now ≤ length out.old }
-    ensures { out.new ≡ either_sign running total (map T.Weighted.weight items.now) ++ drop (length items.now) out.old }
-{
-    let amount = total.unsigned_abs();
-    let mut weight_so_far: u128 = 0;
-    let mut given: u64 = 0;
-    for (i, item) in items.iter().enumerate() {
-        let upto = weight_so_far + u128::from(item.weight());
-        let due = quota(amount, upto, all);
-        out[i] = with_sign_of(total, due - given);
-        weight_so_far = upto;
-        given = due;
+impl Dealer for RunningDealer {
+    ghost share_at = { running_share };
+
+    ghost shares = { running };
+
+    ghost greatest = { 64 };
+
+    ghost Sentence = { RunningSums };
+
+    ghost Ready = { λ d amount ws k. ReadyAt d.division.amount d.division.all d.weight_so_far d.given amount ws k };
+
+    ghost each_place = { running_each };
+
+    ghost lawful = { running_amounts };
+
+    ghost says = { running_sums };
+
+    fn greatest() -> usize {
+        64
+    }
+
+    fn begin<T: Weighted>(division: Division, _items: &[T]) -> RunningDealer {
+        RunningDealer {
+            division,
+            weight_so_far: 0,
+            given: 0,
+        }
+    }
+
+    fn deal(&mut self, weight: u32) -> u64 {
+        let upto = self.weight_so_far + u128::from(weight);
+        let due = self.division.quota(upto);
+        let share = due - self.given;
+        self.weight_so_far = upto;
+        self.given = due;
+        share
     }
 }
