@@ -10,6 +10,8 @@ mod tests;
 pub mod weight;
 
 pub use fault::{Fault, Layer, Notice, ShareFault};
+pub use rule::cents::Division;
+pub use rule::dealing::{Dealer, share_by};
 pub use rule::in_turn::InTurn;
 pub use rule::named::NamedRule;
 pub use rule::running::Running;

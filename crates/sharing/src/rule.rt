@@ -35,6 +35,7 @@ pub trait SharingRule {
 }
 
 /// The sum of the weights of a question that a rule for `greatest` sharers accepts, or its first fault.
+#[tactic(auto, unfolding(crate::specs::Question::judged, crate::specs::Weights::weighed))]
 pub fn judge<T: Weighted>(
     greatest: usize,
     room: usize,

@@ -27,6 +27,7 @@ impl Weighted for u32 {
 /// The sum of the weights, or the first weight over the limit.
 ///
 /// A slice has fewer than 2^64 items and each weighs less than 2^27, so 128 bits hold the sum of every slice.
+#[tactic(auto, unfolding(crate::specs::Weights::weighed))]
 pub fn total_weight<T: Weighted>(items: &[T]) -> Result<u128, ShareFault>
     ensures { result ≡ weighed (map T.Weighted.weight items.now) }
 {

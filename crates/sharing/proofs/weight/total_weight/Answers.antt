@@ -1,11 +1,9 @@
-use Rattle.std.proofs.Common.{◌≡◌, ◌≤◌, true, false, map, length, get_or, Ok, Err, sum, sym, ap, ◌∙◌, arith, le-leb}
+use Rattle.std.proofs.Common.{◌≡◌, true, false, map, get_or, Err, sym, ap, ◌∙◌, arith, le-leb}
 use borrow.Author.Tests.{lt-leb}
-use lib.ListN.{length-map}
-use Rattle.std.proofs.lemmas.List.{take_all}
-use Rattle.std.proofs.lemmas.List.Sums.{prefix_len-drop_yes, prefix_len-drop_no, prefix_len-drop_all}
+use Rattle.std.proofs.lemmas.List.Sums.{prefix_len-drop_yes, prefix_len-drop_no}
 use Rattle.sharing.specs.Weights.{within_limit, before_over}
 use Rattle.sharing.specs.declared.fault.ShareFault.TheVariants.{WeightOverLimit}
-use Rattle.sharing.specs.Weighing.{read_item, sum_more, weighed_all, weighed_over}
+use Rattle.sharing.specs.Weighing.{read_item, sum_more, weighed_over}
 use Rattle.sharing.proofs.weight.total_weight.Goals as goal
 
 pub loop-place-preserved : goal.loop-place-preserved
@@ -16,16 +14,6 @@ loop-place-preserved g c =
     let r = read_item f c.args.items.now i _ _ c.loop-place-test.true c.index-items-place.is c.weight-weight.ensures in
     let y : within_limit (get_or ws i 0) ≡ true = le-leb _ _ (omega arith) in
     (omega (arith, sum_more r), omega arith, omega (arith, prefix_len-drop_yes within_limit ws i 0 r.there y))
-
-pub returns : goal.returns
-returns g c =
-    let f = g.T.Weighted.weight in
-    let ws = map f c.args.items.now in
-    let i = c.loop-place.place in
-    let h : length ws ≤ i = omega (arith, length-map c.args.items.now f) in
-    let e : c.loop-place.sum ≡ sum ws = c.loop-place.invariant.0 ∙ ap sum (take_all i ws h) in
-    let l : length ws ≤ before_over ws = omega (arith, prefix_len-drop_all within_limit ws i h) in
-    ap (λ n. Ok n) e ∙ sym (weighed_all ws l)
 
 pub returns-then-weight-gt-GREATEST_WEIGHT : goal.returns-then-weight-gt-GREATEST_WEIGHT
 returns-then-weight-gt-GREATEST_WEIGHT g c =

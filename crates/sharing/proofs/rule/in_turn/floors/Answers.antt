@@ -34,9 +34,9 @@ overflow_add-given g c =
 pub loop-item-preserved : goal.loop-item-preserved
 loop-item-preserved g c = one_more g c
 
-pub returns : goal.returns
-returns g c =
+pub returns-clause-bound : goal.returns-clause-bound
+returns-clause-bound g c =
     let ws = map g.T.Weighted.weight c.args.items.now in
     let l = length-map c.args.items.now g.T.Weighted.weight in
     let e = c.loop-item.invariant ∙ ap (sum_by (floor_share c.args.division.now.amount ws)) (take_all c.loop-item.item-index ws (omega arith)) in
-    record { value = e; bound = omega (arith, e, floors_within c.args.division.now.amount (sum ws) ws (omega arith)) }
+    omega (arith, e, floors_within c.args.division.now.amount (sum ws) ws (omega arith))
