@@ -1,7 +1,6 @@
 -- Whether a type may be asked, and what the answer and the memory say then.
-use Rattle.std.proofs.Common.{◌≡◌, ℕ, ◌-◌, ◌<◌, ◌≤◌, Bool, List, ◌++◌, length, take, drop, ℤ, Ok, Err, Result, sym, refl, ap, ◌∙◌, subst, inl, inr, arith, MatchResult}
+use Rattle.std.proofs.Common.{◌≡◌, ℕ, ◌-◌, ◌<◌, ◌≤◌, Bool, List, ◌++◌, length, take, drop, ℤ, Ok, Err, Result, sym, refl, ap, ◌∙◌, subst, arith, MatchResult}
 use Rattle.std.proofs.lemmas.List.{length-take-le, take_at, drop_at}
-use Rattle.std.proofs.lemmas.Bool.{cases_lt}
 use Rattle.std.proofs.lemmas.Bool.Decides.{nat_tests}
 use Rattle.charges.specs.Outcome.{Outcome, judged, said, put_in, answer, left_in}
 use Rattle.charges.specs.Laws.{DayLong, Laws, Paying, Refused}
@@ -34,19 +33,8 @@ module _ (asked : Asked) (room : ℕ) where
   Means (Err (Block f)) = ⊥
 
   pub judged_means : Means (judged asked room)
-  judged_means = elim (cases_lt asked.hours 23) [
-    | inl h ↦ subst Means (sym (too_short h)) (λ d. omega (arith, h, d.0))
-    | inr l ↦ elim (cases_lt 25 asked.hours) [
-      | inl h ↦ subst Means (sym (too_long h)) (λ d. omega (arith, h, d.1))
-      | inr u ↦ elim (cases_lt room asked.hours) [
-        | inl h ↦ subst Means (sym (no_room (l, u) h)) ((l, u), h)
-        | inr h ↦ subst Means (sym (may_ask (l, u) h)) ((l, u), h)
-      ]
-    ]
-  ]
-
-  pub means_of : (r : Result (Unit {0}) ChargeFault) → r ≡ judged asked room → Means r
-  means_of r e = subst Means (sym e) judged_means
+  unfolding judged
+  judged_means = grind (arith, nat_tests)
 
 -- what the laws give of an answer and of the hours afterwards
 module _ (reads : ℕ → Bool) (meaning : List ℕ → Asked → Outcome) (laws : Laws reads meaning) (words : List ℕ) (asked : Asked) (room : ℕ) (hours : List ℤ) where

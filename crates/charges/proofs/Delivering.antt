@@ -1,21 +1,13 @@
 -- A block that was worked out as a value is delivered: what a type then answers and leaves.
 use Rattle.std.proofs.Common.{◌≡◌, ℕ, Bool, List, ◌++◌, length, take, drop, ℤ, Ok, Err, Result, refl, ap, ◌∙◌}
 use Rattle.std.proofs.lemmas.List.{take_at}
-use Rattle.charges.specs.Blocks.{block_of, delivered, put_by}
-use Rattle.charges.specs.Outcome.{Outcome, said, put_in, answer, left_in}
+use Rattle.charges.specs.Blocks.{block_of, put_by}
+use Rattle.charges.specs.Outcome.{Outcome, put_in, left_in}
 use Rattle.charges.specs.Laws.{DayLong, Laws}
 use Rattle.charges.specs.declared.block.Block.{Block}
 use Rattle.charges.specs.declared.charge.Asked.{Asked}
 use Rattle.charges.specs.declared.fault.BlockFault.{BlockFault}
 use Rattle.charges.specs.declared.fault.ChargeFault.{ChargeFault}
-
-said_block : (o : Outcome) → delivered (block_of o) ≡ said o
-said_block (Ok p) = refl
-said_block (Err f) = refl
-
-pub delivered_answers : (o : Outcome) (j : Result (Unit {0}) ChargeFault) (b : Result Block BlockFault) (r : Result ℕ ChargeFault)
-    → Ok tt ≡ j → b ≡ block_of o → r ≡ delivered b → r ≡ answer j o
-delivered_answers o j b r e f g = g ∙ ap delivered f ∙ said_block o ∙ ap (λ k. answer k o) e
 
 module _ {reads : ℕ → Bool} {meaning : List ℕ → Asked → Outcome} (laws : Laws reads meaning) (words : List ℕ) (asked : Asked) (hours : List ℤ) where
   put_block : DayLong asked → (o : Outcome) → meaning words asked ≡ o → put_by asked.hours (block_of o) ≡ put_in asked.hours o

@@ -1,7 +1,7 @@
 -- The standby payment: its factors, and what it keeps.
-use Rattle.std.proofs.Common.{◌≡◌, ℕ, ◌+◌, ◌-◌, ◌*◌, ◌/◌, ◌^◌, ◌<◌, ◌≤◌, Bool, cond, ltb, leb, sym, ap, ◌∙◌, subst, mul-div_cancel, arith}
+use Rattle.std.proofs.Common.{◌≡◌, ℕ, ◌+◌, ◌-◌, ◌*◌, ◌/◌, ◌<◌, ◌≤◌, Bool, cond, leb, sym, ap, ◌∙◌, subst, mul-div_cancel, arith}
 use Rattle.std.proofs.lemmas.Nat.{mul-le}
-use Rattle.std.proofs.lemmas.Bool.{cond-false, lt-leb, cond_both, leb-false}
+use Rattle.std.proofs.lemmas.Bool.Decides.{nat_tests}
 use Rattle.charges.specs.Rounding.{rounded}
 use Rattle.charges.specs.Standby.{cost, capacity_factor, availability_factor, earned_incentive, incentive_factor, filed_pay, pays_at, pays}
 use Rattle.charges.specs.StandbyLaws.{LawfulPay}
@@ -17,45 +17,30 @@ at_most_one m d some h =
     let e : 1000000 * d / d ≡ 1000000 = mul-div_cancel 1000000 some in
     omega (arith, e, div_grows (1000000 * m) (1000000 * d) d (omega arith))
 
-pub capacity_missed : (c : Capacity) → c.tested_kw + c.adjusting_kw < c.contract_kw
-    → capacity_factor c ≡ 1000000 * (2 * c.tested_kw - c.contract_kw) / c.contract_kw
-capacity_missed c h = cond-false _ _ _ (lt-leb c.contract_kw (c.tested_kw + c.adjusting_kw) h)
-
 pub capacity_most : (c : Capacity) → capacity_factor c ≤ 1000000
-capacity_most c = cond_both (leb c.contract_kw (c.tested_kw + c.adjusting_kw)) 1000000
-    (1000000 * (2 * c.tested_kw - c.contract_kw) / c.contract_kw) (λ x. x ≤ 1000000)
-    (λ _. omega arith)
-    (λ f. at_most_one (2 * c.tested_kw - c.contract_kw) c.contract_kw (omega (arith, leb-false _ _ f)) (omega (arith, leb-false _ _ f)))
+capacity_most c = grind (arith, nat_tests, at_most_one (2 * c.tested_kw - c.contract_kw) c.contract_kw)
 
 -- what A is once the first sixth of the term is over
 abbrev reached : ℕ → ℕ → ℕ
 reached target n = cond (leb (4380 * target) (10000 * n)) 1000000 (1000000 * (43800000 - 2 * (4380 * target - 10000 * n)) / 43800000)
 
 reached_most : (target n : ℕ) → reached target n ≤ 1000000
-reached_most target n = cond_both (leb (4380 * target) (10000 * n)) 1000000
-    (1000000 * (43800000 - 2 * (4380 * target - 10000 * n)) / 43800000) (λ x. x ≤ 1000000)
-    (λ _. omega arith)
-    (λ _. at_most_one (43800000 - 2 * (4380 * target - 10000 * n)) 43800000 (omega arith) (omega arith))
+reached_most target n = grind (arith, nat_tests, at_most_one (43800000 - 2 * (4380 * target - 10000 * n)) 43800000)
 
 pub availability_most : (a : Availability) (hour n : ℕ) → availability_factor a hour n ≤ 1000000
-availability_most a hour n = cond_both (ltb (6 * (a.elapsed_hours + hour)) a.term_hours) 1000000 (reached a.target n) (λ x. x ≤ 1000000)
-    (λ _. omega arith) (λ _. reached_most a.target n)
+availability_most a hour n = grind (arith, nat_tests, reached_most a.target n)
 
 reached_grows : (target m n : ℕ) → m ≤ n → reached target m ≤ reached target n
-reached_grows target m n h = cond_both (leb (4380 * target) (10000 * n)) 1000000
-    (1000000 * (43800000 - 2 * (4380 * target - 10000 * n)) / 43800000) (λ x. reached target m ≤ x)
-    (λ _. reached_most target m)
-    (λ f. (let l = leb-false _ _ f in
-    let s : reached target m ≡ 1000000 * (43800000 - 2 * (4380 * target - 10000 * m)) / 43800000 = cond-false _ _ _ (lt-leb (4380 * target) (10000 * m) (omega arith)) in
-    subst (λ x. x ≤ 1000000 * (43800000 - 2 * (4380 * target - 10000 * n)) / 43800000) (sym s)
-    (div_grows (1000000 * (43800000 - 2 * (4380 * target - 10000 * m))) (1000000 * (43800000 - 2 * (4380 * target - 10000 * n))) 43800000 (omega arith))))
+reached_grows target m n h = grind (
+  arith,
+  nat_tests,
+  reached_most target m,
+  div_grows (1000000 * (43800000 - 2 * (4380 * target - 10000 * m))) (1000000 * (43800000 - 2 * (4380 * target - 10000 * n))) 43800000 (omega arith),
+)
 
 -- more available hours never lower A
 pub availability_grows : (a : Availability) (hour m n : ℕ) → m ≤ n → availability_factor a hour m ≤ availability_factor a hour n
-availability_grows a hour m n h = cond_both (ltb (6 * (a.elapsed_hours + hour)) a.term_hours) 1000000 (reached a.target n)
-    (λ x. availability_factor a hour m ≤ x)
-    (λ _. availability_most a hour m)
-    (λ f. subst (λ x. x ≤ reached a.target n) (sym (cond-false _ _ _ f)) (reached_grows a.target m n h))
+availability_grows a hour m n h = grind (arith, nat_tests, reached_grows a.target m n h)
 
 -- larger factors never earn less of the incentive
 pub earned_grows : (incentive c a c' a' : ℕ) → c ≤ c' → a ≤ a' → earned_incentive incentive c a ≤ earned_incentive incentive c' a'
@@ -67,10 +52,6 @@ full_incentive : (incentive : ℕ) → earned_incentive incentive 1000000 100000
 full_incentive incentive =
     let e : incentive * 1000000 * 1000000 ≡ 100 * incentive * 10000000000 = omega arith in
     ap (λ n. n / 10000000000) e ∙ mul-div_cancel (100 * incentive) (omega arith)
-
--- an incentive of 32 bits
-pub earned_bound : (incentive c a : ℕ) → incentive < 2 ^ 32 → c ≤ 1000000 → a ≤ 1000000 → earned_incentive incentive c a < 2 ^ 39
-earned_bound incentive c a h p q = omega (arith, h, full_incentive incentive, earned_grows incentive c a 1000000 1000000 p q)
 
 pub filed_grows : (t : StandbyTerms) (f g : ℕ) → f ≤ g → filed_pay t f ≤ filed_pay t g
 filed_grows t f g h = rounded_grows (cost t * (1000000 + f)) (cost t * (1000000 + g)) (t.agreement_hours * 1000000)
@@ -90,8 +71,8 @@ module _ (t : StandbyTerms) (trued_up : Bool) (hour n : ℕ) where
   above : t.basis ≡ Filed → (f : ℕ) → f ≤ F → filed_pay t f ≤ pays t trued_up hour n
   above e f h = subst (λ x. filed_pay t f ≤ x) (sym (filed e)) (filed_grows t f F h)
 
-  pub lawful_pay : LawfulPay t trued_up hour n (pays t trued_up hour n)
-  lawful_pay = record {
+  pub lawful_pay : (paid : ℕ) → paid ≡ pays t trued_up hour n → LawfulPay t trued_up hour n paid
+  lawful_pay paid e = subst (LawfulPay t trued_up hour n) (sym e) (record {
     not_filed_in_time = λ e u. ap (λ b. pays_at b t trued_up hour n) e ∙ ap (λ u. pays_at Estimated t u hour n) u;
     estimated = λ e u. ap (λ b. pays_at b t trued_up hour n) e ∙ ap (λ u. pays_at Estimated t u hour n) u;
     at_least_plain = λ e. subst (λ x. x ≤ pays t trued_up hour n) (plain t) (above e 0 (omega arith));
@@ -99,4 +80,4 @@ module _ (t : StandbyTerms) (trued_up : Bool) (hour n : ℕ) where
         (subst (λ x. F ≤ x) (full_incentive t.incentive) (earned_grows t.incentive _ _ 1000000 1000000 (capacity_most t.capacity) (availability_most t.availability hour n))));
     by_factors = λ e c a p q. above e _ (earned_grows t.incentive c a (capacity_factor t.capacity) (availability_factor t.availability hour n) p q);
     by_availability = λ e m h. above e _ (earned_grows t.incentive (capacity_factor t.capacity) _ (capacity_factor t.capacity) _ (omega arith) (availability_grows t.availability hour m n h));
-  }
+  })

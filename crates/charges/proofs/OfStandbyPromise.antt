@@ -3,15 +3,15 @@ use Rattle.std.proofs.Common.{◌≡◌, ℕ, ◌+◌, ◌*◌, ◌<◌, ◌≤�
 use Rattle.std.specs.List.{range_with_len}
 use Rattle.std.proofs.lemmas.List.FromFn.{length-map-range_with_len, get_or-map-range_with_len}
 use Rattle.std.proofs.lemmas.List.{length-replicate, get_or-replicate, take_at}
-use Rattle.std.proofs.lemmas.Bool.{eqb-true, eqb-false, eq-eqb, not-true, not-false, not_from_true, false≢true}
+use Rattle.std.proofs.lemmas.Bool.{false≢true}
+use Rattle.std.proofs.lemmas.Bool.Decides.{nat_tests}
 use Rattle.words.specs.Each.{each}
 use Rattle.words.specs.Heads.{head_kind, head_judged}
 use Rattle.words.specs.Rows.{nothing_but_zero, row, rows, Row, FirstWrong}
 use Rattle.words.specs.Split.{party}
 use Rattle.words.specs.Values as value
 use Rattle.words.specs.declared.fault.WordFault.{WordFault}
-use Rattle.words.specs.declared.fault.WordFault.TheVariants.{WrongKind, Ended, OutOfRange}
-use Rattle.words.proofs.Heading.{HeadMeans, head_means, good_head}
+use Rattle.words.proofs.Heading.{good_head}
 use Rattle.words.proofs.InTurn.{all_answers, all_answered, a_fault}
 use Rattle.words.proofs.Rowing.{row_means, row_read, asked_rows}
 use Rattle.charges.specs.Laws.{DayLong}
@@ -33,17 +33,12 @@ module _ (words : List ℕ) where
   fits = eqb (head_kind words) 3
 
   good : (p : ℕ) → head_judged fits words ≡ Ok p → GoodHead words
-  good p e =
-      let m = subst (HeadMeans fits words) e (head_means fits words) in
-      record { there = m.0; its_kind = eqb-true (head_kind words) 3 m.1; no_stray_bits = eqb-true _ _ (not-false _ m.2) }
-
-  wrong_of : (f : WordFault) → HeadMeans fits words (Err f) → HeadWrong words f
-  wrong_of (Ended place) m = m
-  wrong_of (WrongKind place) m = (m.0, m.1, eqb-false (head_kind words) 3 m.2)
-  wrong_of (OutOfRange place) m = (m.0, m.1, eqb-true (head_kind words) 3 m.2, eqb-false _ _ (not-true _ m.3))
+  unfolding head_judged
+  good p e = grind (arith, nat_tests)
 
   wrong_head : (f : WordFault) → head_judged fits words ≡ Err f → HeadWrong words f
-  wrong_head f e = wrong_of f (subst (HeadMeans fits words) e (head_means fits words))
+  unfolding head_judged
+  wrong_head f e = grind (arith, nat_tests)
 
   -- rows of one count each, as one row
   module _ (hours : ℕ) where
@@ -54,9 +49,8 @@ module _ (words : List ℕ) where
         → value.InOrder (get_or (replicate hours count_limit) h nothing_but_zero) (12 + h) words (get_or r 0 (pos 0))
     one_in_order h r l e =
         let i = (row_means (count_limit ∷ []) (12 + 1 * h) words (Ok r) (sym e)).in_order 0 (omega arith) in
-        let at : (12 + 1 * h) + 0 ≡ 12 + h = omega arith in
-        subst (λ x. value.InOrder x (12 + h) words (get_or r 0 (pos 0))) (sym (get_or-replicate hours h count_limit nothing_but_zero l))
-        (subst (λ n. value.InOrder count_limit n words (get_or r 0 (pos 0))) at i)
+        let place : (12 + 1 * h) + 0 ≡ 12 + h = omega arith in
+        rw (get_or-replicate hours h count_limit nothing_but_zero l) (rw place at i)
 
     pub counts_row : (rs : List (List ℤ)) → rows (count_limit ∷ []) hours 12 words ≡ Ok rs → Row (replicate hours count_limit) 12 words (single rs)
     counts_row rs e =
@@ -64,31 +58,27 @@ module _ (words : List ℕ) where
         record {
           one_each = length-map-range_with_len _ 0 hours ∙ sym (length-replicate hours count_limit);
           in_order = λ h l. (let l : h < hours = omega (arith, length-replicate hours count_limit, l) in
-              subst (value.InOrder (get_or (replicate hours count_limit) h nothing_but_zero) (12 + h) words) (sym (get_or-map-range_with_len _ 0 hours h h (pos 0) l (omega arith)))
-              (one_in_order h (get_or rs h []) l (a.said h [] l)));
+              rw (get_or-map-range_with_len _ 0 hours h h (pos 0) l (omega arith)) (one_in_order h (get_or rs h []) l (a.said h [] l)));
         }
 
     pub counts_wrong : (f : WordFault) → rows (count_limit ∷ []) hours 12 words ≡ Err f → FirstWrong (replicate hours count_limit) 12 words f
     counts_wrong f e =
         let a = a_fault (asked_rows (count_limit ∷ []) 12 words) hours f e in
         let w = row_means (count_limit ∷ []) (12 + 1 * a.which) words (Err f) (sym a.said) in
-        let at : (12 + 1 * a.which) + w.which ≡ 12 + a.which = omega (arith, w.among) in
         let first : w.which ≡ 0 = omega (arith, w.among) in
+        let place : (12 + 1 * a.which) + 0 ≡ 12 + a.which = omega arith in
         record {
           which = a.which;
           among = omega (arith, a.among, length-replicate hours count_limit);
           before = λ k l. (let b = a.before k l in (get_or b.0 0 (pos 0), one_in_order k b.0 (omega (arith, l, a.among)) b.1));
-          wrong = subst (λ x. value.Wrong x (12 + a.which) words f) (sym (get_or-replicate hours a.which count_limit nothing_but_zero a.among))
-              (subst (λ n. value.Wrong count_limit n words f) at (subst (λ k. value.Wrong (get_or (count_limit ∷ []) k nothing_but_zero) ((12 + 1 * a.which) + w.which) words f) first w.wrong));
+          wrong = rw (get_or-replicate hours a.which count_limit nothing_but_zero a.among) (rw (first, place) at w.wrong);
         }
 
 -- a block in order whose payments are within the limit is paid
 module _ (words : List ℕ) (asked : Asked) (terms : StandbyTerms) (counts : List ℤ) (order : InOrder words asked.hours terms counts)
     (within : (h : ℕ) → h < asked.hours → pays terms asked.trued_up h (nth counts h) ≤ greatest_amount) where
   head_read : head_judged (fits words) words ≡ Ok (party (get_or words 0 0))
-  head_read =
-      let h = order.head in
-      good_head (fits words) words h.there (eq-eqb (head_kind words) 3 h.its_kind) (not_from_true _ (eq-eqb _ _ h.no_stray_bits))
+  head_read = let h = order.head in good_head (fits words) words h.there (grind (arith, nat_tests, h.its_kind)) (grind (arith, nat_tests, h.no_stray_bits))
 
   -- each count as a row of its own
   abbrev row_of : ℕ → List ℤ
@@ -100,13 +90,11 @@ module _ (words : List ℕ) (asked : Asked) (terms : StandbyTerms) (counts : Lis
   one_read : (h : ℕ) → h < asked.hours → row (count_limit ∷ []) (12 + 1 * h) words ≡ Ok (row_of h)
   one_read h l =
       let i = order.counts_in_order.in_order h (omega (arith, length-replicate asked.hours count_limit, l)) in
-      let at : 12 + h ≡ (12 + 1 * h) + 0 = omega arith in
+      let place : 12 + h ≡ (12 + 1 * h) + 0 = omega arith in
       row_read (count_limit ∷ []) (12 + 1 * h) words (row_of h) (record {
         one_each = refl;
-        in_order = λ k z. (let e : 0 ≡ k = omega arith in
-            subst (λ j. value.InOrder (get_or (count_limit ∷ []) j nothing_but_zero) ((12 + 1 * h) + j) words (get_or (row_of h) j (pos 0))) e
-            (subst (λ n. value.InOrder count_limit n words (get_or counts h (pos 0))) at
-            (subst (λ x. value.InOrder x (12 + h) words (get_or counts h (pos 0))) (get_or-replicate asked.hours h count_limit nothing_but_zero l) i)));
+        in_order = λ k z. (let e : k ≡ 0 = omega arith in
+            rw e (rw (get_or-replicate asked.hours h count_limit nothing_but_zero l, place) at i));
       })
 
   counts_read : rows (count_limit ∷ []) asked.hours 12 words ≡ Ok rows_of

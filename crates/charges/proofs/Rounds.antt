@@ -1,8 +1,8 @@
 -- Rounding: how it is worked out, what it gives, and how it grows.
 use Rattle.std.proofs.Common.{◌≡◌, ℕ, zero, suc, ◌+◌, ◌-◌, ◌*◌, ◌/◌, ◌%◌, ◌<◌, ◌≤◌, ap, ◌∙◌, mul_assoc, add-mul, div-mul-le_self, mul_left_comm, arith}
-use native.Mathlib.Nat.{div-zero, lt-div-mul-add, mul-div-mul_right}
+use native.Mathlib.Nat.{div-zero, mul-div-mul_right}
 use Rattle.std.proofs.lemmas.Nat.{div-add-mod', mod_below, div-mul-add, le-div}
-use Rattle.charges.specs.Rounding.{rounded, Nearest}
+use Rattle.charges.specs.Rounding.{rounded}
 
 pub div_grows : (m n k : ℕ) → m ≤ n → m / k ≤ n / k
 div_grows m n zero h = omega (arith, div-zero m, div-zero n)
@@ -16,24 +16,12 @@ module _ (n d : ℕ) (some : 0 < d) where
   twice : (k : ℕ) → k * (2 * d) ≡ 2 * (k * d)
   twice k = mul_left_comm k 2 d
 
-  -- less than a half: down; else up
-  pub rounds_down : n % d < d - n % d → rounded n d ≡ n / d
-  rounds_down h =
-      let e : 2 * n + d ≡ q * (2 * d) + (2 * (n % d) + d) = omega (arith, div-add-mod' n d, twice q) in
-      ap (λ m. m / (2 * d)) e ∙ div-mul-add q (2 * d) (2 * (n % d) + d) (omega arith)
-
+  -- no less than a half: up
   pub rounds_up : d - n % d ≤ n % d → rounded n d ≡ n / d + 1
   rounds_up h =
       let b = mod_below n d some in
       let e : 2 * n + d ≡ (q + 1) * (2 * d) + (2 * (n % d) - d) = omega (arith, h, b, div-add-mod' n d, twice q, twice (q + 1), add-mul q 1 (2 * d)) in
       ap (λ m. m / (2 * d)) e ∙ div-mul-add (q + 1) (2 * d) (2 * (n % d) - d) (omega arith)
-
-  pub rounded_nearest : Nearest n d (rounded n d)
-  rounded_nearest =
-      let r = rounded n d in
-      let low : r * (2 * d) ≤ 2 * n + d = div-mul-le_self (2 * n + d) (2 * d) in
-      let high : 2 * n + d < r * (2 * d) + 2 * d = lt-div-mul-add (omega arith) in
-      record { at_most_half_above = omega (arith, low, twice r); less_than_half_below = omega (arith, high, twice r) }
 
 -- a larger numerator is never rounded to less
 pub rounded_grows : (m n d : ℕ) → m ≤ n → rounded m d ≤ rounded n d

@@ -5,6 +5,7 @@ use Rattle.std.proofs.Math.Path.{ap}
 use Rattle.std.proofs.Math.Logic.{inl, inr}
 use Rattle.std.proofs.lemmas.List.{get_or_past, get_or_append_left}
 use Rattle.std.proofs.lemmas.Bool.{cases_lt, cond-true, cond-false, eqb-true, lt-ltb, le-ltb}
+use Rattle.std.proofs.lemmas.Bool.Decides.{nat_tests}
 use Rattle.sharing.specs.BothSigns.{size_neg}
 use Rattle.words.specs.Each.{each}
 use Rattle.words.specs.Faults.{Placed}
@@ -35,16 +36,10 @@ amount_over t u hour n h = cond-true _ _ _ (lt-ltb greatest_amount (pays t u hou
 
 -- what an amount that is given says of the payment
 pub amount_says : (t : StandbyTerms) (u : Bool) (hour n : ℕ) (z : ℤ) → amount_of t u hour n ≡ Ok z → (z ≡ neg_ℤ (pos (pays t u hour n))) × (pays t u hour n ≤ greatest_amount)
-amount_says t u hour n z e = elim (cases_lt greatest_amount (pays t u hour n)) [
-  | inl h ↦ (let w : Err AmountOverLimit ≡ Ok z = sym (amount_over t u hour n h) ∙ e in let c : ◌≡◌ {A = ℕ} 0 1 = cc in absurd (omega arith))
-  | inr h ↦ (let w : Ok (neg_ℤ (pos (pays t u hour n))) ≡ Ok z = sym (amount_within t u hour n h) ∙ e in let q : neg_ℤ (pos (pays t u hour n)) ≡ z = cc in (sym q, h))
-]
+amount_says t u hour n z e = grind (arith, nat_tests)
 
 pub amount_refused : (t : StandbyTerms) (u : Bool) (hour n : ℕ) (f : BlockFault) → amount_of t u hour n ≡ Err f → (f ≡ AmountOverLimit) × (greatest_amount < pays t u hour n)
-amount_refused t u hour n f e = elim (cases_lt greatest_amount (pays t u hour n)) [
-  | inl h ↦ (let w : Err AmountOverLimit ≡ Err f = sym (amount_over t u hour n h) ∙ e in let q : AmountOverLimit ≡ f = cc in (sym q, h))
-  | inr h ↦ (let w : Ok (neg_ℤ (pos (pays t u hour n))) ≡ Err f = sym (amount_within t u hour n h) ∙ e in let c : ◌≡◌ {A = ℕ} 0 1 = cc in absurd (omega arith))
-]
+amount_refused t u hour n f e = grind (arith, nat_tests)
 
 -- the amount of an hour, its count being one of those that were read
 abbrev pub amount_in : Asked → StandbyTerms → List (List ℤ) → ℕ → Result ℤ BlockFault
@@ -70,7 +65,7 @@ module _ (words : List ℕ) (asked : Asked) where
 
   terms_are : (r : Result (List ℤ) WordFault) (t : StandbyTerms) → as_terms r ≡ Ok t → (values : List ℤ) × (r ≡ Ok values) × (t ≡ terms_of values)
   terms_are (Ok values) t e = let q : terms_of values ≡ t = cc in (values, refl, sym q)
-  terms_are (Err f) t e = let z : ◌≡◌ {A = ℕ} 0 1 = cc in absurd (omega arith)
+  terms_are (Err f) t e = absurd cc
 
   pub parts : (p : Paid) → standby words asked ≡ Ok p → Parts p
   unfolding standby
@@ -165,7 +160,7 @@ module _ (words : List ℕ) (asked : Asked) where
       × (counts : List (List ℤ)) × (rows (count_limit ∷ []) H 12 words ≡ Ok counts) × (each (amount_in asked (terms_of values) counts) H ≡ Err f))))
 
   row_wrong : (r : Result (List ℤ) WordFault) (g : WordFault) → as_terms r ≡ Err g → r ≡ Err g
-  row_wrong (Ok values) g e = let z : ◌≡◌ {A = ℕ} 0 1 = cc in absurd (omega arith)
+  row_wrong (Ok values) g e = absurd cc
   row_wrong (Err h) g e = let q : h ≡ g = cc in ap (λ x. Err x) q
 
   pub faulty : (f : BlockFault) → standby words asked ≡ Err f → Faulty f
@@ -187,7 +182,7 @@ module _ (words : List ℕ) (asked : Asked) where
                 words_well (rows (count_limit ∷ []) H 12 words) c.0 c.1,
                 ap (λ s. each (amount_in asked s c.0) H) (sym t.2) ∙ h,
               )))
-              | inr d ↦ (let z : ◌≡◌ {A = ℕ} 0 1 = cc in absurd (omega arith))
+              | inr d ↦ (absurd cc)
             ]
           ])
     ])
@@ -243,10 +238,10 @@ standby_laws = record {
 counts_in : (r : Result (List (List ℤ)) WordFault) (all : List (List ℤ)) → Ok all ≡ padded 1 25 r
     → (cs : List (List ℤ)) × (r ≡ Ok cs) × (all ≡ cs ++ replicate (25 - length cs) (replicate 1 (pos 0)))
 counts_in (Ok cs) all e = let q : all ≡ cs ++ replicate (25 - length cs) (replicate 1 (pos 0)) = cc in (cs, refl, q)
-counts_in (Err f) all e = let z : ◌≡◌ {A = ℕ} 0 1 = cc in absurd (omega arith)
+counts_in (Err f) all e = absurd cc
 
 pub no_counts : (r : Result (List (List ℤ)) WordFault) (f : WordFault) → Err f ≡ padded 1 25 r → r ≡ Err f
-no_counts (Ok cs) f e = let z : ◌≡◌ {A = ℕ} 0 1 = cc in absurd (omega arith)
+no_counts (Ok cs) f e = absurd cc
 no_counts (Err g) f e = let q : f ≡ g = cc in ap (λ x. Err x) (sym q)
 
 block_alike : (n : ℕ) (r : Result (List ℤ) BlockFault) (s : Result (List ℤ) BlockFault) → s ≡ filled_up r

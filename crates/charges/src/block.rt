@@ -1,5 +1,5 @@
 //! What came of a block, and how it is put into the hours of the day.
-ghost use Rattle.std.specs.Prelude.{◌≡◌, ◌≤◌, length, replicate, pos};
+ghost use Rattle.std.specs.Prelude.{◌≡◌, ◌≤◌, length};
 ghost use Rattle.charges.specs.Blocks.{delivered, put_by};
 
 use crate::fault::{BlockFault, ChargeFault};
@@ -11,7 +11,10 @@ pub const MOST_HOURS: usize = 25;
 pub const GREATEST_AMOUNT: u128 = 1_000_000_000;
 
 /// A block that was read and is paid; the amounts behind the day's last hour are 0.
-#[derive(Clone, Copy)]
+///
+/// Its memory, as that of the counts that it is worked out from, is fixed and on the stack, for the longest day: the engine
+/// allocates nothing.
+#[derive(Clone, Copy, PartialEq, Eq, Debug)]
 pub struct Block {
     pub length: usize,
     pub amounts: [i64; MOST_HOURS],
@@ -33,16 +36,8 @@ pub(crate) fn deliver(
             Ok(block.length)
         }
         Err(fault) => {
-            clear(hours);
+            hours.fill(0);
             Err(ChargeFault::Block(fault))
         }
-    }
-}
-
-fn clear(hours: &mut [i64])
-    ensures { hours.new ≡ replicate (length hours.old) (pos 0) }
-{
-    for i in 0..hours.len() {
-        hours[i] = 0;
     }
 }

@@ -8,7 +8,7 @@ use crate::fault::ChargeFault;
 use words::head::first_kind;
 
 /// The first type gets the blocks whose kind it reads, the second the others.
-#[derive(Clone, Copy)]
+#[derive(Clone, Copy, PartialEq, Eq, Debug)]
 pub struct Both<A, B> {
     pub first: A,
     pub second: B,
@@ -29,7 +29,7 @@ impl<A: ChargeType, B: ChargeType> ChargeType for Both<A, B> {
     }
 
     fn charge(&self, words: &[u32], asked: Asked, hours: &mut [i64]) -> Result<usize, ChargeFault> {
-        if self.first.reads(first_kind(words)) {
+        if first_kind(words).is_some_and(|kind| self.first.reads(kind)) {
             self.first.charge(words, asked, hours)
         } else {
             self.second.charge(words, asked, hours)

@@ -1,8 +1,8 @@
 //! The trait of a charge type, and how a part of the caller's memory is lent to one.
-ghost use Rattle.std.specs.Prelude.{◌≡◌, ℕ, ◌-◌, Bool, List, ◌++◌, length, take, drop, MatchResult};
+ghost use Rattle.std.specs.Prelude.{◌≡◌, ℕ, ◌-◌, ◌≤◌, Bool, List, ◌++◌, length, take, drop, IfOk, MatchResult};
 ghost use Rattle.charges.specs.Outcome.{Outcome, judged, answer, left_in};
 ghost use Rattle.charges.specs.declared.charge.Asked.{Asked};
-ghost use Rattle.charges.specs.Laws.{Laws, Paying, Refused};
+ghost use Rattle.charges.specs.Laws.{DayLong, Laws, Paying, Refused};
 
 use crate::fault::ChargeFault;
 
@@ -22,10 +22,15 @@ pub trait ChargeType {
     ghost meaning: { Self → List ℕ → Asked → Outcome };
 
     /// Whether the type reads blocks whose head has this kind.
+    ///
+    /// Kinds stay numbers: the trait is open, so any type may bring kinds that no enum here names.
     fn reads(&self, kind: u32) -> bool
         ensures { result ≡ reads self.now kind };
 
     /// Writes the amounts of the block that begins the words to the front of `hours`, and answers the block's length.
+    ///
+    /// The three stay apart, since each has an owner of its own: the words are the file's, the question is the run's, and
+    /// the hours are the caller's table.
     fn charge(&self, words: &[u32], asked: Asked, hours: &mut [i64]) -> Result<usize, ChargeFault>
         ensures answers { result ≡ answer (judged asked (length hours.old)) (meaning self.now words.now asked) }
         ensures leaves { hours.new ≡ left_in (judged asked (length hours.old)) asked (meaning self.now words.now asked) hours.old };
@@ -34,8 +39,12 @@ pub trait ChargeType {
 }
 
 /// Whether a type may be asked at all: the day has 23 to 25 hours, and there is room for them.
+// A type for a day that was judged, with this in a ghost field, is no plainer: what delivers a block still needs its part of the
+// hours to be no longer than a day.
+#[tactic(auto, unfolding(crate::specs::Outcome::judged))]
 pub(crate) fn judge_call(asked: Asked, room: usize) -> Result<(), ChargeFault>
-    ensures { result ≡ judged asked room }
+    ensures is { result ≡ judged asked room }
+    ensures means { IfOk result (λ _. DayLong asked × (asked.hours ≤ room)) }
 {
     if asked.hours < 23 || 25 < asked.hours {
         return Err(ChargeFault::HoursOutOfRange);

@@ -1,11 +1,11 @@
 //! Standby, kind 3: what a must-run unit is paid for standing by (RMRSBAMT).
 pub mod terms;
 
-ghost use Rattle.std.specs.Prelude.{◌≡◌, ◌≤◌, length, take, is_ok, Decides, MatchResult, ◌==◌, unsigned_abs};
+ghost use Rattle.std.specs.Prelude.{◌≡◌, ◌≤◌, length, take, is_ok, Decides, MatchResult, ◌==◌};
 ghost use Rattle.words.specs.Each.{each};
 ghost use Rattle.charges.specs.Outcome.{judged, answer, left_in};
 ghost use Rattle.charges.specs.Standby.{amount_of};
-ghost use Rattle.charges.specs.StandbyBlock.{standby, basis_of, terms_of, terms_read, count_at};
+ghost use Rattle.charges.specs.StandbyBlock.{standby, terms_of, count_at};
 ghost use Rattle.charges.specs.StandbyPromise.{StandbyLawful, StandbyPaid, StandbyRefused};
 ghost use Rattle.charges.specs.Blocks.{block_of, filled_up};
 ghost use Rattle.charges.specs.OfStandbyBlock.{standby_laws};
@@ -13,11 +13,11 @@ ghost use Rattle.charges.specs.OfStandbyBlock.{standby_laws};
 use crate::block::{Block, MOST_HOURS, deliver};
 use crate::charge::{Asked, ChargeType, judge_call};
 use crate::fault::{BlockFault, ChargeFault};
-use crate::standby::terms::{Availability, Basis, Capacity, StandbyTerms};
+use crate::standby::terms::{Availability, Basis, Capacity, StandbyHour, StandbyTerms};
 use words::head::{first_kind, judge_head};
-use words::{Limits, WordFault, read_row, read_rows};
+use words::{Limits, Reader};
 
-#[derive(Clone, Copy)]
+#[derive(Clone, Copy, PartialEq, Eq, Debug)]
 pub struct Standby;
 
 /// The kind of a standby block's head.
@@ -76,9 +76,6 @@ const COUNT: [Limits; 1] = [Limits {
     high: 4_380,
 }];
 
-/// The place of the first count.
-const COUNTS_AT: usize = 12;
-
 impl ChargeType for Standby {
     ghost reads = { λ _ k. (k == 3) };
 
@@ -111,74 +108,68 @@ fn read_block(words: &[u32], asked: Asked) -> Result<Block, BlockFault>
     requires { asked.hours ≤ 25 }
     ensures { result ≡ block_of (standby words.now asked) }
 {
-    judge_head(words, first_kind(words) == KIND)?;
-    let terms = read_terms(words)?;
-    let counts = read_rows(words, COUNTS_AT, COUNT, asked.hours)?;
-    let amounts = pay_hours(&terms, asked, counts)?;
+    judge_head(words, first_kind(words) == Some(KIND))?;
+    let mut reader = Reader::new(words, 1);
+    let terms = StandbyTerms::from(reader.row(TERMS)?);
+    let counts: [[i32; 1]; MOST_HOURS] = reader.rows(COUNT, asked.hours)?;
+    let amounts = pay_hours(&terms, asked.trued_up, &counts[..asked.hours])?;
     Ok(Block {
-        length: COUNTS_AT + asked.hours,
+        length: reader.at,
         amounts,
     })
 }
 
-/// The amounts of the day's hours, with zeros behind them, or the first that is over the limit.
+/// The amounts of the day's hours, one for each count, with zeros behind them, or the first that is over the limit.
 fn pay_hours(
     terms: &StandbyTerms,
-    asked: Asked,
-    counts: [[i32; 1]; MOST_HOURS],
+    trued_up: bool,
+    counts: &[[i32; 1]],
 ) -> Result<[i64; MOST_HOURS], BlockFault>
-    requires { asked.hours ≤ 25 }
-    ensures { result ≡ filled_up (each (λ hour. amount_of terms.now asked.trued_up hour (count_at counts hour)) asked.hours) }
+    requires { length counts.now ≤ 25 }
+    ensures { result ≡ filled_up (each (λ hour. amount_of terms.now trued_up hour (count_at counts.now hour)) (length counts.now)) }
 {
     let mut amounts = [0; MOST_HOURS];
-    for hour in 0..asked.hours {
-        let [available] = counts[hour];
-        amounts[hour] = terms.amount(asked.trued_up, hour, natural(available))?;
+    for (hour, [count]) in counts.iter().enumerate() {
+        let available = count.unsigned_abs();
+        amounts[hour] = terms.amount(trued_up, StandbyHour { hour, available })?;
     }
     Ok(amounts)
 }
 
-fn read_terms(words: &[u32]) -> Result<StandbyTerms, WordFault>
-    ensures { result ≡ terms_read words.now }
-{
-    Ok(terms_of(read_row(words, 1, TERMS)?))
-}
+impl From<[i32; 11]> for StandbyTerms {
+    ghost from_gives = { λ values terms. terms ≡ terms_of values };
 
-fn terms_of(values: [i32; 11]) -> StandbyTerms
-    ensures { result ≡ terms_of values }
-{
-    StandbyTerms {
-        basis: basis_of(values[0]),
-        dollars: natural(values[1]),
-        cents: natural(values[2]),
-        agreement_hours: natural(values[3]),
-        incentive: natural(values[4]),
-        capacity: Capacity {
-            contract_kw: natural(values[5]),
-            tested_kw: natural(values[6]),
-            adjusting_kw: natural(values[7]),
-        },
-        availability: Availability {
-            target: natural(values[8]),
-            elapsed_hours: natural(values[9]),
-            term_hours: natural(values[10]),
-        },
+    /// The limits of the values keep them from being negative.
+    fn from(values: [i32; 11]) -> StandbyTerms {
+        let [
+            basis,
+            dollars,
+            cents,
+            agreement_hours,
+            incentive,
+            contract_kw,
+            tested_kw,
+            adjusting_kw,
+            target,
+            elapsed_hours,
+            term_hours,
+        ] = values.map(i32::unsigned_abs);
+        StandbyTerms {
+            basis: Basis::from(basis),
+            dollars,
+            cents,
+            agreement_hours,
+            incentive,
+            capacity: Capacity {
+                contract_kw,
+                tested_kw,
+                adjusting_kw,
+            },
+            availability: Availability {
+                target,
+                elapsed_hours,
+                term_hours,
+            },
+        }
     }
-}
-
-fn basis_of(value: i32) -> Basis
-    ensures { result ≡ basis_of (unsigned_abs value) }
-{
-    if value == 0 {
-        Basis::Estimated
-    } else {
-        Basis::Filed
-    }
-}
-
-/// A value whose limits keep it from being negative.
-fn natural(value: i32) -> u32
-    ensures { result ≡ unsigned_abs value }
-{
-    value.unsigned_abs()
 }

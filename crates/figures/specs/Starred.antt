@@ -8,6 +8,7 @@ use Rattle.charges.specs.Standby.{capacity_factor, availability_factor, amount_o
 use Rattle.charges.specs.declared.standby.terms.Availability.{Availability}
 use Rattle.charges.specs.declared.standby.terms.Basis.TheVariants.{Filed}
 use Rattle.charges.specs.declared.standby.terms.Capacity.{Capacity}
+use Rattle.charges.specs.declared.standby.terms.StandbyHour.{StandbyHour}
 use Rattle.charges.specs.declared.standby.terms.StandbyTerms.{StandbyTerms}
 use Rattle.figures.specs.declared.figure.Figure.{Figure}
 use Rattle.figures.specs.declared.figure.Figure.TheVariants.{Shares, CapacityFactor, AvailabilityFactor, Standby}
@@ -21,8 +22,8 @@ Gives rule total weights shares =
 abbrev pub Holds : Figure → Type 0
 Holds (Shares rule total weights shares) = Gives rule total weights shares
 Holds (CapacityFactor capacity factor) = capacity_factor capacity ≡ factor
-Holds (AvailabilityFactor availability hour n factor) = availability_factor availability hour n ≡ factor
-Holds (Standby terms hour n amount) = amount_of terms false hour n ≡ Ok amount
+Holds (AvailabilityFactor availability at factor) = availability_factor availability at.hour at.available ≡ factor
+Holds (Standby terms at amount) = amount_of terms false at.hour at.available ≡ Ok amount
 
 abbrev minus : ℕ → ℤ
 minus n = neg_ℤ (pos n)
@@ -34,6 +35,10 @@ capacity_of contract tested adjusting = record { contract_kw = contract; tested_
 -- TA in ten-thousandths, E and HCP in hours
 abbrev availability_of : ℕ → ℕ → ℕ → Availability
 availability_of target elapsed term = record { target = target; elapsed_hours = elapsed; term_hours = term }
+
+-- an hour of the day, and n
+abbrev hour_of : ℕ → ℕ → StandbyHour
+hour_of hour n = record { hour = hour; available = n }
 
 -- a filed cost in dollars, MH, and IF in ten-thousandths
 abbrev filed : ℕ → ℕ → ℕ → Capacity → Availability → StandbyTerms
@@ -53,9 +58,9 @@ starred =
     ∷ Shares InTurn (pos 100) (1 ∷ 1 ∷ 1 ∷ []) (pos 34 ∷ pos 33 ∷ pos 33 ∷ [])
     ∷ Shares Running (minus 100) (1 ∷ 1 ∷ 1 ∷ []) (minus 33 ∷ minus 33 ∷ minus 34 ∷ [])
     ∷ Shares InTurn (minus 100) (1 ∷ 1 ∷ 1 ∷ []) (minus 34 ∷ minus 33 ∷ minus 33 ∷ [])
-    ∷ Standby (filed 720000 720 1000 (capacity_of 400000 400000 0) (availability_of 9000 5000 8760)) 0 3942 (minus 110000)
+    ∷ Standby (filed 720000 720 1000 (capacity_of 400000 400000 0) (availability_of 9000 5000 8760)) (hour_of 0 3942) (minus 110000)
     ∷ CapacityFactor (capacity_of 400000 380000 20000) 1000000
     ∷ CapacityFactor (capacity_of 400000 380000 19999) 900000
-    ∷ AvailabilityFactor (availability_of 9000 5000 8760) 0 3942 1000000
-    ∷ AvailabilityFactor (availability_of 9000 5000 8760) 0 3941 999543
+    ∷ AvailabilityFactor (availability_of 9000 5000 8760) (hour_of 0 3942) 1000000
+    ∷ AvailabilityFactor (availability_of 9000 5000 8760) (hour_of 0 3941) 999543
     ∷ []

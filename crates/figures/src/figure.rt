@@ -3,7 +3,7 @@ ghost use Rattle.std.specs.Prelude.{◌≡◌, false, Ok, Decides};
 ghost use Rattle.charges.specs.Standby.{amount_of};
 ghost use Rattle.figures.specs.Starred.{Gives, Holds};
 
-use charges::{Availability, Capacity, StandbyTerms};
+use charges::{Availability, Capacity, StandbyHour, StandbyTerms};
 use sharing::{NamedRule, apportion};
 use std::fmt;
 
@@ -24,15 +24,13 @@ pub enum Figure {
     /// The availability factor of a must-run unit in an hour, in millionths.
     AvailabilityFactor {
         availability: Availability,
-        hour: usize,
-        available: u32,
+        at: StandbyHour,
         factor: u64,
     },
     /// The standby amount of an hour in a run that is not trued up, in cents.
     Standby {
         terms: StandbyTerms,
-        hour: usize,
-        available: u32,
+        at: StandbyHour,
         amount: i64,
     },
 }
@@ -51,36 +49,24 @@ pub fn try_figure(figure: Figure) -> bool
         Figure::CapacityFactor { capacity, factor } => capacity.factor() == factor,
         Figure::AvailabilityFactor {
             availability,
-            hour,
-            available,
+            at,
             factor,
-        } => availability.factor(hour, available) == factor,
-        Figure::Standby {
-            terms,
-            hour,
-            available,
-            amount,
-        } => pays(terms, hour, available, amount),
+        } => availability.factor(at) == factor,
+        Figure::Standby { terms, at, amount } => pays(terms, at, amount),
     }
 }
 
-fn pays(terms: StandbyTerms, hour: usize, available: u32, amount: i64) -> bool
-    ensures { Decides result (amount_of terms false hour available ≡ Ok amount) }
+fn pays(terms: StandbyTerms, at: StandbyHour, amount: i64) -> bool
+    ensures { Decides result (amount_of terms false at.hour at.available ≡ Ok amount) }
 {
-    match terms.amount(false, hour, available) {
-        Ok(given) => given == amount,
-        Err(_) => false,
-    }
+    terms.amount(false, at) == Ok(amount)
 }
 
 fn gives(rule: NamedRule, total: i64, weights: [u32; 3], shares: [i64; 3]) -> bool
     ensures { Decides result (Gives rule total weights shares) }
 {
     let mut given = [0; 3];
-    match apportion(&rule, total, &weights, &mut given) {
-        Ok(()) => given == shares,
-        Err(_) => false,
-    }
+    apportion(&rule, total, &weights, &mut given).is_ok() && given == shares
 }
 
 impl fmt::Display for Figure {
@@ -102,25 +88,21 @@ impl fmt::Display for Figure {
             }
             Figure::AvailabilityFactor {
                 availability,
-                hour,
-                available,
+                at,
                 factor,
             } => write!(
                 f,
-                "{}, hour {hour}, n {available}: A {factor}",
-                Shown(*availability)
+                "{}, hour {}, n {}: A {factor}",
+                Shown(*availability),
+                at.hour,
+                at.available
             ),
-            Figure::Standby {
-                terms,
-                hour,
-                available,
-                amount,
-            } => write!(
+            Figure::Standby { terms, at, amount } => write!(
                 f,
                 "{}, C {}, A {}: {amount}",
                 Shown(*terms),
                 terms.capacity.factor(),
-                terms.availability.factor(*hour, *available)
+                terms.availability.factor(*at)
             ),
         }
     }
@@ -132,7 +114,8 @@ struct Three<T>([T; 3]);
 
 impl<T: fmt::Display> fmt::Display for Three<T> {
     fn fmt<W: fmt::Write>(&self, f: &mut fmt::Formatter<W>) -> fmt::Result {
-        write!(f, "{}, {}, {}", self.0[0], self.0[1], self.0[2])
+        let Three([first, second, third]) = self;
+        write!(f, "{first}, {second}, {third}")
     }
 }
 
@@ -142,27 +125,40 @@ struct Shown<T>(T);
 
 impl fmt::Display for Shown<Capacity> {
     fn fmt<W: fmt::Write>(&self, f: &mut fmt::Formatter<W>) -> fmt::Result {
-        let contract = self.0.contract_kw;
-        let tested = self.0.tested_kw;
-        let adjusting = self.0.adjusting_kw;
-        write!(f, "CCAP {contract}, TCAP {tested}, TCAPA {adjusting}")
+        let Capacity {
+            contract_kw,
+            tested_kw,
+            adjusting_kw,
+        } = self.0;
+        write!(
+            f,
+            "CCAP {contract_kw}, TCAP {tested_kw}, TCAPA {adjusting_kw}"
+        )
     }
 }
 
 impl fmt::Display for Shown<Availability> {
     fn fmt<W: fmt::Write>(&self, f: &mut fmt::Formatter<W>) -> fmt::Result {
-        let target = self.0.target;
-        let elapsed = self.0.elapsed_hours;
-        let term = self.0.term_hours;
-        write!(f, "TA {target}, E {elapsed}, HCP {term}")
+        let Availability {
+            target,
+            elapsed_hours,
+            term_hours,
+        } = self.0;
+        write!(f, "TA {target}, E {elapsed_hours}, HCP {term_hours}")
     }
 }
 
 impl fmt::Display for Shown<StandbyTerms> {
     fn fmt<W: fmt::Write>(&self, f: &mut fmt::Formatter<W>) -> fmt::Result {
-        let dollars = self.0.dollars;
-        let hours = self.0.agreement_hours;
-        let incentive = self.0.incentive;
-        write!(f, "standby of ${dollars}, MH {hours}, IF {incentive}")
+        let StandbyTerms {
+            dollars,
+            agreement_hours,
+            incentive,
+            ..
+        } = self.0;
+        write!(
+            f,
+            "standby of ${dollars}, MH {agreement_hours}, IF {incentive}"
+        )
     }
 }

@@ -12,12 +12,14 @@ use std::io;
 
 fn main(rt: HostRuntime) -> io::Result<()> {
     println!(rt; "Starred figures, proved of the definitions and tried on the engine:")?;
-    for figure in starred_figures() {
-        println!(rt; "  {figure} ({})", found(figure))?;
-    }
+    print_tried(rt, &starred_figures())?;
     println!(rt; "Figures tried on the engine only:")?;
-    for figure in other_figures() {
-        println!(rt; "  {figure} ({})", found(figure))?;
+    print_tried(rt, &other_figures())
+}
+
+fn print_tried(rt: HostRuntime, figures: &[Figure]) -> io::Result<()> {
+    for figure in figures {
+        println!(rt; "  {figure} ({})", found(*figure))?;
     }
     Ok(())
 }

@@ -1,11 +1,8 @@
 //! Figures that are not proved, and tried on the engine only.
 use crate::figure::Figure;
-use charges::Availability;
+use charges::{Availability, StandbyHour};
 
-/// How many figures there are.
-pub const COUNT: usize = 3;
-
-pub fn other_figures() -> [Figure; COUNT] {
+pub fn other_figures() -> [Figure; 3] {
     let at = Availability {
         target: 9_000,
         elapsed_hours: 5_000,
@@ -14,8 +11,10 @@ pub fn other_figures() -> [Figure; COUNT] {
     [
         Figure::AvailabilityFactor {
             availability: at,
-            hour: 0,
-            available: 1_752,
+            at: StandbyHour {
+                hour: 0,
+                available: 1_752,
+            },
             factor: 0,
         },
         // The first sixth of the term: 1,460 hours of 8,760. Without an available hour the factor is 0 where the window
@@ -25,8 +24,10 @@ pub fn other_figures() -> [Figure; COUNT] {
                 elapsed_hours: 1_459,
                 ..at
             },
-            hour: 0,
-            available: 0,
+            at: StandbyHour {
+                hour: 0,
+                available: 0,
+            },
             factor: 1_000_000,
         },
         Figure::AvailabilityFactor {
@@ -34,8 +35,10 @@ pub fn other_figures() -> [Figure; COUNT] {
                 elapsed_hours: 1_460,
                 ..at
             },
-            hour: 0,
-            available: 0,
+            at: StandbyHour {
+                hour: 0,
+                available: 0,
+            },
             factor: 0,
         },
     ]

@@ -4,14 +4,11 @@ ghost use Rattle.std.specs.List.{AllByRecursion};
 ghost use Rattle.figures.specs.Starred.{starred, Holds};
 
 use crate::figure::Figure;
-use charges::{Availability, Basis, Capacity, StandbyTerms};
+use charges::{Availability, Basis, Capacity, StandbyHour, StandbyTerms};
 use sharing::NamedRule;
 
-/// How many figures there are.
-pub const COUNT: usize = 9;
-
 /// The list, which is proved to hold.
-pub fn starred_figures() -> [Figure; COUNT]
+pub fn starred_figures() -> [Figure; 9]
     ensures listed { result ≡ starred }
     ensures hold { AllByRecursion Holds result }
 {
@@ -60,8 +57,10 @@ pub fn starred_figures() -> [Figure; COUNT]
                 },
                 availability,
             },
-            hour: 0,
-            available: 3_942,
+            at: StandbyHour {
+                hour: 0,
+                available: 3_942,
+            },
             amount: -110_000,
         },
         Figure::CapacityFactor {
@@ -82,14 +81,18 @@ pub fn starred_figures() -> [Figure; COUNT]
         },
         Figure::AvailabilityFactor {
             availability,
-            hour: 0,
-            available: 3_942,
+            at: StandbyHour {
+                hour: 0,
+                available: 3_942,
+            },
             factor: 1_000_000,
         },
         Figure::AvailabilityFactor {
             availability,
-            hour: 0,
-            available: 3_941,
+            at: StandbyHour {
+                hour: 0,
+                available: 3_941,
+            },
             factor: 999_543,
         },
     ]

@@ -1,8 +1,10 @@
 -- A line's fields, read one after another.
-use Rattle.std.proofs.Common.{◌≡◌, ℕ, zero, suc, ◌+◌, ◌<◌, ◌≤◌, List, [], ◌∷◌, ◌++◌, length, get_or, codes, sym, refl, ap, subst, inl, inr, arith}
+use Rattle.std.proofs.Common.{◌≡◌, ℕ, suc, ◌+◌, ◌-◌, ◌<◌, ◌≤◌, List, [], ◌∷◌, ◌++◌, length, get_or, codes, Bor, Result, MatchResult, IsErrAnd, sym, refl, ap, subst, inl, inr, arith}
+use lib.ListN.{length-map}
 use Rattle.std.proofs.lemmas.List.{length_push, get_or_push, get_or_append_left}
 use Rattle.std.proofs.lemmas.Bool.{cases_lt}
-use Rattle.settle.specs.Grammar.{Unsuited, FieldWrong, share_field, block_field, Belongs, Wrong}
+use Rattle.std.proofs.lemmas.Result.{err_from_is_err_and}
+use Rattle.settle.specs.Grammar.{texts, FieldWrong, RestWrong, Belongs, Wrong}
 use Rattle.settle.specs.declared.command.Field.{Field}
 use Rattle.settle.specs.declared.command.Field.TheVariants.{Weight as WeightField, Word as WordField}
 use Rattle.settle.specs.declared.command.Unread.{Unread}
@@ -27,47 +29,34 @@ module _ (W : List ℕ → ℕ → Type 0) (first : ℕ) (fields : List (List �
     subst Written (sym m) (written_push ns n (subst (λ i. W (get_or fields i []) n) e w) before),
   )
 
--- a line of one field
-pub sole : (fields : List (List ℕ)) (text : List ℕ) → 0 < length fields → length fields ≤ 1 → get_or fields 0 [] ≡ text → fields ≡ text ∷ []
-sole [] text some few e = absurd (omega arith)
-sole (x ∷ []) text some few e = ap (λ t. t ∷ []) e
-sole (x ∷ y ∷ ys) text some few e = absurd (omega arith)
-
 -- a field that is wrong makes the line wrong, where it belongs there and the line has all fields before it
 pub wrong_at : (fields : List (List ℕ)) (at : ℕ) (field : Field) (u : Unread) → at ≤ length fields → Belongs fields at field → FieldWrong fields at field u → Wrong fields u
 wrong_at fields at field NotText h b w = w
-wrong_at fields at field (Missing n f) h b w = (omega arith, subst (Belongs fields n) (sym w.1) (subst (λ k. Belongs fields k field) (sym w.0) b))
-wrong_at fields at field (Malformed n f) h b w = (
-  omega arith,
-  subst (Belongs fields n) (sym w.1) (subst (λ k. Belongs fields k field) (sym w.0) b),
-  subst (λ g. Unsuited g (get_or fields n [])) (sym w.1) (subst (λ k. Unsuited field (get_or fields k [])) (sym w.0) w.3),
-)
+wrong_at fields at field (Missing n f) h b w = rw (w.0, w.1) (omega arith, b)
+wrong_at fields at field (Malformed n f) h b w = rw (w.0, w.1) (w.2, b, w.3)
 wrong_at fields at field (Surplus n) h b w = absurd w
 wrong_at fields at field NoMemory h b w = tt
 
--- a line that has a name has a field
-pub named : (fields : List (List ℕ)) (x : ℕ) (xs : List ℕ) → get_or fields 0 [] ≡ x ∷ xs → 1 ≤ length fields
-named [] x xs e = let z : ◌≡◌ {A = ℕ} 0 1 = cc in absurd (omega arith)
-named (f ∷ fs) x xs e = omega arith
+-- a call of `read` or `read_rest` that fails, in a command that goes by Name, makes the line wrong
+module _ {C : Type 0} (P : C → Type 0) (refs : List (Bor (List ℕ))) (Name : Type 0) (r : Result C Unread) (u : Unread) (is : IsErrAnd r (λ e. e ≡ u)) where
+  pub wrong_next : (n : ℕ) (field : Field) → n < length refs → (Name → Belongs (texts refs) (suc n) field) → FieldWrong (texts refs) (suc n) field u
+      → MatchResult r P (λ v. Name → Wrong (texts refs) v)
+  wrong_next n field h b w =
+      let p = err_from_is_err_and r is in
+      rw (p.1, p.2) (λ name. wrong_at (texts refs) (suc n) field u (omega (arith, length-map refs (λ f. f.now))) (b name) w)
 
--- the fields of a share command behind its name, and of a block command
-pub in_share : (fields : List (List ℕ)) (n : ℕ) → get_or fields 0 [] ≡ codes "share" → Belongs fields (suc n) (share_field n)
-in_share fields n e = inl (e, refl)
+  pub wrong_rest : (first : ℕ) (field : Field) → ((at : ℕ) → first ≤ at → Name → Belongs (texts refs) at field) → RestWrong first (texts refs) field u
+      → MatchResult r P (λ v. Name → Wrong (texts refs) v)
+  wrong_rest first field b (inl (at, h, l, w)) =
+      let p = err_from_is_err_and r is in
+      rw (p.1, p.2) (λ name. wrong_at (texts refs) at field u (omega arith) (b at h name) w)
+  wrong_rest first field b (inr none) =
+      let p = err_from_is_err_and r is in
+      rw (p.1, p.2, none) (λ name. tt)
 
-pub in_block : (fields : List (List ℕ)) (n : ℕ) → get_or fields 0 [] ≡ codes "block" → Belongs fields (suc n) (block_field n)
-in_block fields n e = inr (e, refl)
-
+-- a weight belongs at each place from 4 on of a share command, a word from 5 on of a block command
 pub weight_at : (fields : List (List ℕ)) (at : ℕ) → 4 ≤ at → get_or fields 0 [] ≡ codes "share" → Belongs fields at WeightField
-weight_at fields (suc (suc (suc (suc n)))) h e = inl (e, refl)
-weight_at fields zero h e = absurd (omega arith)
-weight_at fields (suc zero) h e = absurd (omega arith)
-weight_at fields (suc (suc zero)) h e = absurd (omega arith)
-weight_at fields (suc (suc (suc zero))) h e = absurd (omega arith)
+weight_at fields at h e = let p : suc (suc (suc (suc (at - 4)))) ≡ at = omega arith in subst (λ k. Belongs fields k WeightField) p (inl (e, refl))
 
 pub word_at : (fields : List (List ℕ)) (at : ℕ) → 5 ≤ at → get_or fields 0 [] ≡ codes "block" → Belongs fields at WordField
-word_at fields (suc (suc (suc (suc (suc n))))) h e = inr (e, refl)
-word_at fields zero h e = absurd (omega arith)
-word_at fields (suc zero) h e = absurd (omega arith)
-word_at fields (suc (suc zero)) h e = absurd (omega arith)
-word_at fields (suc (suc (suc zero))) h e = absurd (omega arith)
-word_at fields (suc (suc (suc (suc zero)))) h e = absurd (omega arith)
+word_at fields at h e = let p : suc (suc (suc (suc (suc (at - 5))))) ≡ at = omega arith in subst (λ k. Belongs fields k WordField) p (inr (e, refl))

@@ -1,15 +1,13 @@
 -- The desk's answers, from what a rule or a charge type answers.
-use Rattle.std.proofs.Common.{◌≡◌, ℕ, min, ltb, List, ◌++◌, map, length, take, drop, ℤ, Ok, Err, Result, sym, refl, ap, ◌∙◌, inl, inr, arith}
+use Rattle.std.proofs.Common.{◌≡◌, ℕ, min, ltb, List, ◌++◌, map, length, take, drop, ℤ, Ok, Err, Result, sym, refl, ap, ◌∙◌, arith}
 use Rattle.std.proofs.lemmas.Bool.Decides.{nat_tests}
 use Rattle.std.proofs.lemmas.List.{take_at}
-use Rattle.std.proofs.lemmas.Bool.{cases_lt}
 use Rattle.charges.specs.Named.{meaning_by}
 use Rattle.charges.specs.Outcome.{Outcome, judged as asked_with, answer as block_answer, left_in as block_left}
 use Rattle.charges.specs.declared.charge.Asked.{Asked}
 use Rattle.charges.specs.declared.fault.ChargeFault.{ChargeFault}
-use Rattle.charges.specs.declared.fault.ChargeFault.TheVariants.{Block as BlockFaultOf}
 use Rattle.charges.specs.declared.named.NamedCharge.{NamedCharge}
-use Rattle.charges.proofs.Asking.{too_short, too_long, no_room, may_ask, Means, judged_means}
+use Rattle.charges.proofs.Asking.{Means, judged_means}
 use Rattle.charges.specs.OfNamed.{named_laws}
 use Rattle.sharing.specs.Named.{shares_by, most_by}
 use Rattle.sharing.specs.Question.{judged, answer, left_in}
@@ -20,8 +18,8 @@ use Rattle.sharing.specs.OfNamed.{plain_verdict, plain_shares}
 use Rattle.settle.specs.Reply.{given, reply, paid_of, given_block, block_reply}
 
 fault_given : (verdict : Result ℕ ShareFault) (f : ShareFault) (shares : List ℤ) → Err f ≡ answer verdict → Err f ≡ given verdict shares
-fault_given (Ok w) f shares e = let y : ◌≡◌ {A = ℕ} 0 1 = cc in absurd (omega arith)
-fault_given (Err g) f shares e = let y : f ≡ g = cc in ap (λ x. Err x) y
+fault_given (Ok w) f shares e = cc
+fault_given (Err g) f shares e = cc
 
 -- no more places than weights are as good as any number of them
 enough_room : (room place n : ℕ) → place ≡ min room n → ltb place n ≡ ltb room n
@@ -44,16 +42,8 @@ module _ (rule : NamedRule) (room place : ℕ) (total z : ℤ) (ws : List ℕ) (
 
 -- memory for no more than the hours of the longest day is as good as any
 asked_alike : (asked : Asked) (room place : ℕ) → place ≡ min room 25 → asked_with asked place ≡ asked_with asked room
-asked_alike asked room place e = elim (cases_lt asked.hours 23) [
-  | inl h ↦ too_short asked place h ∙ sym (too_short asked room h)
-  | inr l ↦ elim (cases_lt 25 asked.hours) [
-    | inl h ↦ too_long asked place h ∙ sym (too_long asked room h)
-    | inr u ↦ elim (cases_lt room asked.hours) [
-      | inl h ↦ no_room asked place (l, u) (omega arith) ∙ sym (no_room asked room (l, u) h)
-      | inr h ↦ may_ask asked place (l, u) (omega arith) ∙ sym (may_ask asked room (l, u) h)
-    ]
-  ]
-]
+unfolding asked_with
+asked_alike asked room place e = grind (arith, nat_tests)
 
 module _ (charge : NamedCharge) (asked : Asked) (words : List ℕ) where
   abbrev H : ℕ
@@ -65,13 +55,13 @@ module _ (charge : NamedCharge) (asked : Asked) (words : List ℕ) where
       let q : n ≡ p.words = cc in
       ap (λ k. Ok (paid_of k (take H (p.amounts ++ drop H memory)))) q
       ∙ ap (λ l. Ok (paid_of p.words l)) (take_at p.amounts (drop H memory) H ((named_laws charge).paying words asked m.0 p e).each_hour)
-  block_given place (Ok u) m (Err f) e n memory a = let z : ◌≡◌ {A = ℕ} 0 1 = cc in absurd (omega arith)
-  block_given place (Err f) m o e n memory a = let z : ◌≡◌ {A = ℕ} 0 1 = cc in absurd (omega arith)
+  block_given place (Ok u) m (Err f) e n memory a = cc
+  block_given place (Err f) m o e n memory a = cc
 
   block_fault : (j : Result (Unit {0}) ChargeFault) (o : Outcome) (f : ChargeFault) → Err f ≡ block_answer j o → Err f ≡ given_block j o
-  block_fault (Ok u) (Ok p) f e = let z : ◌≡◌ {A = ℕ} 0 1 = cc in absurd (omega arith)
-  block_fault (Ok u) (Err g) f e = let q : f ≡ BlockFaultOf g = cc in ap (λ x. Err x) q
-  block_fault (Err g) o f e = let q : f ≡ g = cc in ap (λ x. Err x) q
+  block_fault (Ok u) (Ok p) f e = cc
+  block_fault (Ok u) (Err g) f e = cc
+  block_fault (Err g) o f e = cc
 
   -- `place` is the number of places as it reached the type
   module _ (room place : ℕ) (capped : place ≡ min room 25) where

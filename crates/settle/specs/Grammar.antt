@@ -1,5 +1,5 @@
 -- The command language: what a line's fields ask for.
-use Rattle.std.specs.Prelude.{◌≡◌, ℕ, zero, suc, ◌+◌, ◌-◌, ◌^◌, ◌<◌, ◌≤◌, Bool, true, false, cond, ◌&&◌, ◌||◌, ◌⊎◌, List, [], ◌∷◌, ◌++◌, map, length, get_or, take, ℤ, vec_items, codes, IsUtf8, FitsSigned, ◌==◌, ◌≢◌, nat_lt, slice_index, slice_index_or}
+use Rattle.std.specs.Prelude.{◌≡◌, ℕ, zero, suc, ◌+◌, ◌-◌, ◌^◌, ◌<◌, ◌≤◌, Bool, true, false, cond, ◌&&◌, ◌||◌, ◌⊎◌, List, [], ◌∷◌, ◌++◌, map, length, Result, Ok, MatchResult, get_or, take, ℤ, vec_items, codes, IsUtf8, FitsSigned, ◌==◌, ◌≢◌, nat_lt, slice_index, slice_index_or}
 use Rattle.std.specs.Borrow.{Bor}
 use Rattle.std.specs.List.{join_with_byte, prefix_len}
 use Rattle.std.specs.Str.Parse.{IsNumeral, digits_value, without_leading_plus, without_leading_sign, signed_digits_value}
@@ -12,6 +12,8 @@ use Rattle.sharing.specs.declared.rule.named.NamedRule.{NamedRule}
 use Rattle.std.specs.Int.{w64}
 use Rattle.settle.specs.declared.command.Field.{Field}
 use Rattle.settle.specs.declared.command.Field.TheVariants.{Command as CommandField, Rule as RuleField, Room as RoomField, Total as TotalField, Weight as WeightField, Charge as ChargeField, Hours as HoursField, Trued as TruedField, Word as WordField}
+use Rattle.settle.specs.declared.command.fields.Flag.{Flag}
+use Rattle.settle.specs.declared.command.fields.Word.{Word}
 use Rattle.settle.specs.declared.command.Unread.{Unread}
 use Rattle.settle.specs.declared.command.Unread.TheVariants.{NotText, Missing, Malformed, Surplus, NoMemory}
 use Rattle.settle.specs.declared.command.Command.{Command}
@@ -45,6 +47,23 @@ WritesWord text n =
 abbrev pub flag : Bool → List ℕ
 flag false = codes "0"
 flag true = codes "1"
+
+-- a text is read as the flag that it is, and refused if it is none
+abbrev pub ReadsFlag : {E : Type 0} → List ℕ → Result Flag E → Type 0
+ReadsFlag text result = MatchResult result (λ set. text ≡ flag set.0) (λ _. (set : Bool) → text ≢ flag set)
+
+-- a text is read as the word that it writes, and refused if it writes none of 32 bits
+abbrev pub ReadsWord : {E : Type 0} → List ℕ → Result Word E → Type 0
+ReadsWord text result = MatchResult result (λ word. WritesWord text word.0) (λ _. (n : ℕ) → WritesWord text n → n < 2 ^ 32 → ⊥)
+
+-- the text is read as a value, which stands for the number
+abbrev pub ReadAs : {N E : Type 0} → (List ℕ → Result N E → Type 0) → (N → ℕ → Type 0) → List ℕ → ℕ → Type 0
+ReadAs {N = N} reads means text n = (value : N) × reads text (Ok value) × means value n
+
+-- the fields from a place on are as many as the numbers, and stand for them each by W
+pub record EachField (W : List ℕ → ℕ → Type 0) (first : ℕ) (fields : List (List ℕ)) (numbers : List ℕ) : Type 0 where
+  pub as_many : length fields ≡ first + length numbers
+  pub each : (k : ℕ) → k < length numbers → W (slice_index_or fields (first + k) []) (slice_index numbers k)
 
 -- share RULE ROOM TOTAL WEIGHT...
 pub record AsksShare (fields : List (List ℕ)) (rule : NamedRule) (room : ℕ) (total : ℤ) (weights : List ℕ) : Type 0 where
@@ -86,13 +105,13 @@ LineAsks line command = (fields : List (List ℕ)) × (join_with_byte 32 fields 
 -- the text does not suit the field
 abbrev pub Unsuited : Field → List ℕ → Type 0
 Unsuited CommandField text = (text ≢ codes "share") × (text ≢ codes "block") × (text ≢ codes "tally")
-Unsuited RuleField text = (text ≢ codes "running") × (text ≢ codes "in-turn")
+Unsuited RuleField text = (rule : NamedRule) → text ≢ name_of rule
 Unsuited RoomField text = (n : ℕ) → Writes text n → n < 2 ^ 64 → ⊥
 Unsuited TotalField text = (z : ℤ) → WritesSigned text z → FitsSigned w64 z → ⊥
 Unsuited WeightField text = (n : ℕ) → Writes text n → n < 2 ^ 32 → ⊥
-Unsuited ChargeField text = text ≡ codes "standby" → ⊥
+Unsuited ChargeField text = (charge : NamedCharge) → text ≢ charge_name charge
 Unsuited HoursField text = (n : ℕ) → Writes text n → n < 2 ^ 64 → ⊥
-Unsuited TruedField text = (text ≢ codes "0") × (text ≢ codes "1")
+Unsuited TruedField text = (set : Bool) → text ≢ flag set
 Unsuited WordField text = (n : ℕ) → WritesWord text n → n < 2 ^ 32 → ⊥
 
 -- what is wrong with the field that should stand at a place: it is missing, or its text does not suit
@@ -102,6 +121,10 @@ FieldWrong fields at field (Missing n f) = (n ≡ at) × (f ≡ field) × (lengt
 FieldWrong fields at field (Malformed n f) = (n ≡ at) × (f ≡ field) × (at < length fields) × Unsuited field (slice_index_or fields at [])
 FieldWrong fields at field (Surplus n) = ⊥
 FieldWrong fields at field NoMemory = ⊥
+
+-- what is wrong with the fields from a place on: one of them, or there was no memory for what they write
+abbrev pub RestWrong : ℕ → List (List ℕ) → Field → Unread → Type 0
+RestWrong first fields field u = ((at : ℕ) × (first ≤ at) × (at < length fields) × FieldWrong fields at field u) ⊎ (u ≡ NoMemory)
 
 -- which field stands where behind the name in share RULE ROOM TOTAL WEIGHT...
 abbrev pub share_field : ℕ → Field

@@ -29,24 +29,35 @@ abbrev pub refused_line : ℕ → ℕ → Layer → List ℕ → List ℕ
 refused_line number place layer words =
     codes "refused " ++ (decimal number ++ (codes " " ++ (decimal place ++ (codes " " ++ (layer_name layer ++ (codes " (" ++ (words ++ (codes ")"))))))))
 
+-- what a refusal tells is what its fault tells
+abbrev pub number_of : Refusal → ℕ
+number_of (Share f) = of_share.number_of f
+number_of (Charge f) = of_charge.number_of f
+
+abbrev pub place_of : Refusal → ℕ
+place_of (Share f) = of_share.place_of f
+place_of (Charge f) = of_charge.place_of f
+
+abbrev pub layer_of : Refusal → Layer
+layer_of (Share f) = of_share.layer_of f
+layer_of (Charge f) = of_charge.layer_of f
+
+abbrev pub reason_of : Refusal → List ℕ
+reason_of (Share f) = of_share.reason_of f
+reason_of (Charge f) = of_charge.reason_of f
+
 abbrev pub refusal_line : Refusal → List ℕ
-refusal_line (Share f) = refused_line (of_share.number_of f) (of_share.place_of f) (of_share.layer_of f) (of_share.reason_of f)
-refusal_line (Charge f) = refused_line (of_charge.number_of f) (of_charge.place_of f) (of_charge.layer_of f) (of_charge.reason_of f)
+refusal_line r = refused_line (number_of r) (place_of r) (layer_of r) (reason_of r)
 
-abbrev pub sharing_report : ℕ → ℕ → ℕ → ℤ → ℤ → List ℕ
-sharing_report shared refused unread totals shares =
-    codes "ok " ++ (decimal shared ++ (codes " " ++ (decimal refused ++ (codes " " ++ (decimal unread ++ (codes " " ++ (signed_decimal totals ++ (codes " " ++ signed_decimal shares))))))))
-
-abbrev pub blocks_report : ℕ → ℤ → List ℕ
-blocks_report blocks amounts =
-    codes " " ++ (decimal blocks ++ (codes " " ++ (signed_decimal amounts ++ (codes " (totals shared, questions refused, lines not read, cents in the totals, cents in the shares, blocks paid, cents in their amounts)"))))
-
-abbrev pub blocks_part : Tally → List ℕ
-blocks_part t = blocks_report t.blocks t.amounts
+abbrev pub report : ℕ → ℕ → ℕ → ℤ → ℤ → ℕ → ℤ → List ℕ
+report shared refused unread totals shares blocks amounts =
+    codes "ok " ++ (decimal shared ++ (codes " " ++ (decimal refused ++ (codes " " ++ (decimal unread ++ (codes " " ++ (signed_decimal totals ++ (codes " " ++ (signed_decimal shares
+    ++ (codes " " ++ (decimal blocks ++ (codes " " ++ (signed_decimal amounts
+    ++ (codes " (totals shared, questions refused, lines not read, cents in the totals, cents in the shares, blocks paid, cents in their amounts)"))))))))))))))
 
 -- ok SHARED REFUSED UNREAD TOTALS SHARES BLOCKS AMOUNTS (WORDS)
 abbrev pub tally_line : Tally → List ℕ
-tally_line t = sharing_report t.shared t.refused t.unread t.totals t.shares ++ blocks_part t
+tally_line t = report t.shared t.refused t.unread t.totals t.shares t.blocks t.amounts
 
 -- what the line of an answer is; the words of an error line are open
 abbrev pub Says : Answer → List ℕ → Type 0

@@ -15,8 +15,11 @@ use Rattle.settle.specs.Tallies.{with_shares, with_block, with_refusal, with_unr
 use Rattle.settle.specs.declared.answer.Answer.{Answer}
 use Rattle.settle.specs.declared.answer.Answer.TheVariants.{Shares, Block as BlockOf, Refused, Report as ReportOf, Error}
 use Rattle.settle.specs.declared.answer.Refusal.TheVariants.{Share as ShareOf, Charge as ChargeOf}
+use Rattle.settle.specs.declared.answer.Refusal.{Refusal}
 use Rattle.settle.specs.declared.command.Command.{Command}
 use Rattle.settle.specs.declared.command.Command.TheVariants.{Share, Block, Report}
+use Rattle.settle.specs.declared.desk.Undone.{Undone}
+use Rattle.settle.specs.declared.desk.Undone.TheVariants.{Refused as RefusedFor, NoMemory}
 use Rattle.settle.specs.declared.tally.Tally.{Tally}
 
 abbrev pub given : Result ℕ ShareFault → List ℤ → Result (List ℤ) ShareFault
@@ -39,13 +42,31 @@ given_block (Ok u) (Err f) = Err (BlockFaultOf f)
 abbrev pub block_reply : NamedCharge → Asked → ℕ → List ℕ → Result Paid ChargeFault
 block_reply charge asked room words = given_block (asked_with asked room) (meaning_by charge words asked)
 
+-- the fault for which a question of sharing is refused, and a question about a block
+abbrev pub RefusesShare : NamedRule → ℕ → ℤ → List ℕ → Refusal → Type 0
+RefusesShare rule room total ws (ShareOf f) = Err f ≡ reply rule room total ws
+RefusesShare rule room total ws (ChargeOf f) = ⊥
+
+abbrev pub RefusesBlock : NamedCharge → Asked → ℕ → List ℕ → Refusal → Type 0
+RefusesBlock charge asked room words (ShareOf f) = ⊥
+RefusesBlock charge asked room words (ChargeOf f) = Err f ≡ block_reply charge asked room words
+
+abbrev pub Refuses : Command → Refusal → Type 0
+Refuses (Share rule room total weights) f = RefusesShare rule room total (vec_items weights) f
+Refuses (Block charge asked room words) f = RefusesBlock charge asked room (vec_items words) f
+Refuses Report f = ⊥
+
+-- what is not done is refused, or there was no memory for it
+abbrev pub NotDone : (Refusal → Type 0) → Undone → Type 0
+NotDone R (RefusedFor f) = R f
+NotDone R (NoMemory e) = Unit {0}
+
 -- a question of sharing is answered with the reply, and counted
 abbrev pub DoneShare : Tally → NamedRule → ℕ → ℤ → List ℕ → Answer → Tally → Type 0
 DoneShare before rule room total ws (Shares shares) after =
     (Ok (vec_items shares) ≡ reply rule room total ws) × (after ≡ with_shares before total (vec_items shares))
 DoneShare before rule room total ws (BlockOf n amounts) after = ⊥
-DoneShare before rule room total ws (Refused (ShareOf f)) after = (Err f ≡ reply rule room total ws) × (after ≡ with_refusal before)
-DoneShare before rule room total ws (Refused (ChargeOf f)) after = ⊥
+DoneShare before rule room total ws (Refused f) after = RefusesShare rule room total ws f × (after ≡ with_refusal before)
 DoneShare before rule room total ws (ReportOf tally) after = ⊥
 DoneShare before rule room total ws (Error line unread) after = ⊥
 
@@ -54,8 +75,7 @@ abbrev pub DoneBlock : Tally → NamedCharge → Asked → ℕ → List ℕ → 
 DoneBlock before charge asked room words (Shares shares) after = ⊥
 DoneBlock before charge asked room words (BlockOf n amounts) after =
     (Ok (paid_of n (vec_items amounts)) ≡ block_reply charge asked room words) × (after ≡ with_block before (vec_items amounts))
-DoneBlock before charge asked room words (Refused (ShareOf f)) after = ⊥
-DoneBlock before charge asked room words (Refused (ChargeOf f)) after = (Err f ≡ block_reply charge asked room words) × (after ≡ with_refusal before)
+DoneBlock before charge asked room words (Refused f) after = RefusesBlock charge asked room words f × (after ≡ with_refusal before)
 DoneBlock before charge asked room words (ReportOf tally) after = ⊥
 DoneBlock before charge asked room words (Error line unread) after = ⊥
 

@@ -1,18 +1,36 @@
 //! The answers, one line a command.
 ghost use Rattle.std.specs.Prelude.{◌≡◌, IfOk, string_bytes};
-ghost use Rattle.settle.specs.Lines.{with_amounts, refused_line, refusal_line, blocks_part, tally_line, Says};
+ghost use Rattle.settle.specs.Lines.{number_of, place_of, layer_of, reason_of, with_amounts, refused_line, tally_line, Says};
 
 use crate::command::Unread;
 use crate::tally::Tally;
 use charges::ChargeFault;
-use sharing::{Fault, Layer, ShareFault};
+use sharing::{Fault, Notice, ShareFault};
 use std::alloc::{AllocError, Global};
+use std::fmt::Write;
 
 /// What the engine refused, and why.
 #[derive(Clone, Copy)]
 pub enum Refusal {
     Share(ShareFault),
     Charge(ChargeFault),
+}
+
+impl Fault for Refusal {
+    ghost number_of = { number_of };
+
+    ghost place_of = { place_of };
+
+    ghost layer_of = { layer_of };
+
+    ghost reason_of = { reason_of };
+
+    fn notice(&self) -> Notice {
+        match *self {
+            Self::Share(fault) => fault.notice(),
+            Self::Charge(fault) => fault.notice(),
+        }
+    }
 }
 
 #[derive(Drop)]
@@ -30,74 +48,47 @@ pub fn answer_text(heap: Global, answer: &Answer) -> Result<String, AllocError>
     ensures { IfOk result (λ line. Says answer.now (string_bytes line)) }
 {
     match answer {
-        Answer::Shares(shares) => {
-            let line = String::from_str(heap, "ok")?;
-            amounts_text(heap, line, shares.as_slice())
-        }
+        Answer::Shares(shares) => amounts_text(String::from_str(heap, "ok")?, shares.as_slice()),
         Answer::Block { length, amounts } => {
-            let line = format!(in heap; "ok {length}")?;
-            amounts_text(heap, line, amounts.as_slice())
+            amounts_text(format!(in heap; "ok {length}")?, amounts.as_slice())
         }
         Answer::Report(tally) => tally_text(heap, *tally),
-        Answer::Refused(refusal) => refusal_text(heap, *refusal),
+        Answer::Refused(refusal) => refused_text(heap, refusal.notice()),
         Answer::Error { line, unread } => format!(in heap; "error (line {line}, {unread})"),
     }
 }
 
 /// The line with each of the amounts behind it.
-fn amounts_text(heap: Global, line: String, amounts: &[i64]) -> Result<String, AllocError>
+fn amounts_text(mut line: String, amounts: &[i64]) -> Result<String, AllocError>
     ensures { IfOk result (λ whole. string_bytes whole ≡ with_amounts (string_bytes line) amounts.now) }
 {
-    let mut line = line;
+    // A loop, since each step allocates and may fail.
     for amount in amounts {
-        let field = format!(in heap; " {amount}")?;
-        line.push_str(field.as_str())?;
+        write!(line, " {amount}")?;
     }
     Ok(line)
 }
 
-fn refusal_text(heap: Global, refusal: Refusal) -> Result<String, AllocError>
-    ensures { IfOk result (λ line. string_bytes line ≡ refusal_line refusal) }
+fn refused_text(heap: Global, notice: Notice) -> Result<String, AllocError>
+    ensures { IfOk result (λ line. string_bytes line ≡ refused_line notice.number notice.place notice.layer notice.reason.now) }
 {
-    match refusal {
-        Refusal::Share(f) => refused_text(heap, f.number(), f.place(), f.layer(), f.reason()),
-        Refusal::Charge(f) => refused_text(heap, f.number(), f.place(), f.layer(), f.reason()),
-    }
-}
-
-fn refused_text(
-    heap: Global,
-    number: u32,
-    place: usize,
-    layer: Layer,
-    reason: &str,
-) -> Result<String, AllocError>
-    ensures { IfOk result (λ line. string_bytes line ≡ refused_line number place layer reason.now) }
-{
-    format!(in heap; "refused {number} {place} {layer} ({reason})")
+    format!(in heap;
+        "refused {} {} {} ({})",
+        notice.number, notice.place, notice.layer, notice.reason
+    )
 }
 
 fn tally_text(heap: Global, tally: Tally) -> Result<String, AllocError>
     ensures { IfOk result (λ line. string_bytes line ≡ tally_line tally) }
 {
-    let shared = tally.shared;
-    let refused = tally.refused;
-    let unread = tally.unread;
-    let totals = tally.totals;
-    let shares = tally.shares;
-    let mut line = format!(in heap; "ok {shared} {refused} {unread} {totals} {shares}")?;
-    let rest = blocks_text(heap, tally)?;
-    line.push_str(rest.as_str())?;
-    Ok(line)
-}
-
-/// The end of a tally's line.
-fn blocks_text(heap: Global, tally: Tally) -> Result<String, AllocError>
-    ensures { IfOk result (λ line. string_bytes line ≡ blocks_part tally) }
-{
-    let blocks = tally.blocks;
-    let amounts = tally.amounts;
     format!(in heap;
-        " {blocks} {amounts} (totals shared, questions refused, lines not read, cents in the totals, cents in the shares, blocks paid, cents in their amounts)"
+        "ok {} {} {} {} {} {} {} (totals shared, questions refused, lines not read, cents in the totals, cents in the shares, blocks paid, cents in their amounts)",
+        tally.shared,
+        tally.refused,
+        tally.unread,
+        tally.totals,
+        tally.shares,
+        tally.blocks,
+        tally.amounts
     )
 }

@@ -1,19 +1,17 @@
 //! The command language: fields separated by single spaces, the first of them the command's name.
-pub mod block;
+mod fields;
 
-ghost use Rattle.std.specs.Prelude.{◌≡◌, ℕ, ◌<◌, ◌≤◌, List, [], length, IfOk, Ok, Err, codes, MatchResult, slice_index_or};
+ghost use Rattle.std.specs.Prelude.{◌≡◌, ℕ, List, [], IfOk, codes, MatchResult, slice_index_or};
 ghost use Rattle.std.specs.List.{join_with_byte};
-ghost use Rattle.sharing.specs.Named.{name_of};
-ghost use Rattle.settle.specs.Grammar.{texts, Asks, Unsuited, FieldWrong, Wrong};
-ghost use Rattle.settle.specs.declared.command.Unread.TheVariants.{Surplus, NoMemory};
-ghost use Rattle.settle.specs.declared.command.Field.TheVariants.{Rule as RuleField};
+ghost use Rattle.settle.specs.Grammar.{texts, Asks, Wrong};
+ghost use Rattle.settle.specs.declared.command.Unread.TheVariants.{NotText, NoMemory};
 
-use crate::command::block::read_block;
+use crate::command::fields::{Flag, Word, field_text, read, read_rest};
 use charges::{Asked, NamedCharge};
 use sharing::NamedRule;
 use std::alloc::{AllocError, AllocFailed, Global};
 use std::fmt;
-use std::str::FromStr;
+use std::str::Utf8Error;
 
 /// What a line asks for.
 #[derive(Drop)]
@@ -80,6 +78,14 @@ pub enum Unread {
 /// A field's place as a reader counts it, from 1.
 fn place(at: usize) -> usize {
     at.saturating_add(1)
+}
+
+impl From<Utf8Error> for Unread {
+    ghost from_gives = { λ _ r. r ≡ NotText };
+
+    fn from(_e: Utf8Error) -> Self {
+        Self::NotText
+    }
 }
 
 impl From<AllocError> for Unread {
@@ -152,31 +158,19 @@ fn read_fields(heap: Global, fields: &[&str]) -> Result<Command, Unread>
     match field_text(fields, 0, field)? {
         "share" => read_share(heap, fields),
         "block" => read_block(heap, fields),
-        "tally" => read_bare(Command::Report, fields),
+        "tally" if fields.len() > 1 => Err(Unread::Surplus { at: 1 }),
+        "tally" => Ok(Command::Report),
         _ => Err(Unread::Malformed { at: 0, field }),
     }
-}
-
-/// A command that has no fields but its name.
-fn read_bare(command: Command, fields: &[&str]) -> Result<Command, Unread>
-    ensures { MatchResult result (λ c. (c ≡ command) × (length fields.now ≤ 1)) (λ u. (u ≡ Surplus 1) × (1 < length fields.now)) }
-{
-    if fields.len() > 1 {
-        return Err(Unread::Surplus { at: 1 });
-    }
-    Ok(command)
 }
 
 fn read_share(heap: Global, fields: &[&str]) -> Result<Command, Unread>
     ensures { MatchResult result (λ c. slice_index_or (texts fields.now) 0 [] ≡ codes "share" → Asks (texts fields.now) c) (λ u. slice_index_or (texts fields.now) 0 [] ≡ codes "share" → Wrong (texts fields.now) u) }
 {
-    let rule = read_rule(fields, 1)?;
-    let room = read_number(fields, 2, Field::Room)?;
-    let total = read_number(fields, 3, Field::Total)?;
-    let mut weights = Vec::new(heap);
-    for at in 4..fields.len() {
-        weights.push(read_number(fields, at, Field::Weight)?)?;
-    }
+    let rule = read(fields, 1, Field::Rule)?;
+    let room = read(fields, 2, Field::Room)?;
+    let total = read(fields, 3, Field::Total)?;
+    let weights = read_rest::<u32>(heap, fields, 4, Field::Weight)?;
     Ok(Command::Share {
         rule,
         room,
@@ -185,34 +179,18 @@ fn read_share(heap: Global, fields: &[&str]) -> Result<Command, Unread>
     })
 }
 
-fn read_rule(fields: &[&str], at: usize) -> Result<NamedRule, Unread>
-    ensures { MatchResult result (λ rule. (at < length fields.now) × (slice_index_or (texts fields.now) at [] ≡ name_of rule)) (λ u. FieldWrong (texts fields.now) at RuleField u) }
+fn read_block(heap: Global, fields: &[&str]) -> Result<Command, Unread>
+    ensures { MatchResult result (λ c. slice_index_or (texts fields.now) 0 [] ≡ codes "block" → Asks (texts fields.now) c) (λ u. slice_index_or (texts fields.now) 0 [] ≡ codes "block" → Wrong (texts fields.now) u) }
 {
-    let field = Field::Rule;
-    match field_text(fields, at, field)? {
-        "running" => Ok(NamedRule::Running),
-        "in-turn" => Ok(NamedRule::InTurn),
-        _ => Err(Unread::Malformed { at, field }),
-    }
-}
-
-pub(crate) fn read_number<N: FromStr>(fields: &[&str], at: usize, field: Field) -> Result<N, Unread>
-where
-    N::Err: Drop,
-    requires { (text : List ℕ) (e : N.Err) → N.FromStr.from_str_gives text (Err e) → Unsuited field text }
-    ensures { MatchResult result (λ n. (at < length fields.now) × N.FromStr.from_str_gives (slice_index_or (texts fields.now) at []) (Ok n)) (λ u. FieldWrong (texts fields.now) at field u) }
-{
-    match field_text(fields, at, field)?.parse::<N>() {
-        Ok(number) => Ok(number),
-        Err(_) => Err(Unread::Malformed { at, field }),
-    }
-}
-
-pub(crate) fn field_text<'a>(fields: &[&'a str], at: usize, field: Field) -> Result<&'a str, Unread>
-    ensures { MatchResult result (λ text. (at < length fields.now) × (text.now ≡ slice_index_or (texts fields.now) at [])) (λ u. FieldWrong (texts fields.now) at field u) }
-{
-    match fields.get(at) {
-        Some(text) => Ok(*text),
-        None => Err(Unread::Missing { at, field }),
-    }
+    let charge = read(fields, 1, Field::Charge)?;
+    let hours = read(fields, 2, Field::Hours)?;
+    let Flag(trued_up) = read(fields, 3, Field::Trued)?;
+    let room = read(fields, 4, Field::Room)?;
+    let words = read_rest::<Word>(heap, fields, 5, Field::Word)?;
+    Ok(Command::Block {
+        charge,
+        asked: Asked { hours, trued_up },
+        room,
+        words,
+    })
 }

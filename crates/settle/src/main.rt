@@ -13,15 +13,11 @@ use tally::Tally;
 
 fn main(rt: HostRuntime) -> anyhow::Result<()> {
     let heap = rt.alloc();
-    let mut input = BufReader::new(heap, rt.stdin())?;
+    let lines = BufReader::new(heap, rt.stdin())?.split(heap, b'\n');
     let mut tally = Tally::new();
     // Nothing says that an input ends, so its lines are counted.
-    for number in 1..u64::MAX {
-        let mut line = Vec::new(heap);
-        if input.read_until(b'\n', &mut line)? == 0 {
-            break;
-        }
-        if let Some(answer) = answer_line(heap, &mut tally, number, line.as_slice())? {
+    for (number, line) in (1..u64::MAX).zip(lines) {
+        if let Some(answer) = answer_line(heap, &mut tally, number, line?.as_slice())? {
             rt.println(answer_text(heap, &answer)?)?;
         }
     }

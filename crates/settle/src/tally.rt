@@ -4,7 +4,7 @@ ghost use Rattle.sharing.specs.Laws.{sum_ℤ};
 ghost use Rattle.settle.specs.Tallies.{nothing_done, with_shares, with_block, with_refusal, with_unread};
 
 /// Counts of answers, and the sums of the totals that were shared, of their shares and of the blocks' amounts.
-#[derive(Clone, Copy)]
+#[derive(Clone, Copy, Default)]
 pub struct Tally {
     pub shared: u64,
     pub refused: u64,
@@ -16,18 +16,11 @@ pub struct Tally {
 }
 
 impl Tally {
-    pub fn new() -> Tally
+    /// The tally of a desk that has done nothing.
+    pub fn new() -> Self
         ensures { result ≡ nothing_done }
     {
-        Tally {
-            shared: 0,
-            refused: 0,
-            unread: 0,
-            totals: 0,
-            shares: 0,
-            blocks: 0,
-            amounts: 0,
-        }
+        Self::default()
     }
 
     pub fn note_shares(&mut self, total: i64, shares: &[i64])
@@ -62,6 +55,7 @@ impl Tally {
 fn sum_cents(amounts: &[i64]) -> i128
     ensures { result ≡ sum_ℤ amounts.now }
 {
+    // `iter().map(..).sum()` was tried: nothing says that each item of a signed slice is what the closure read.
     let mut sum: i128 = 0;
     for amount in amounts {
         sum += i128::from(*amount);

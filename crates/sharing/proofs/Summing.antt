@@ -1,8 +1,6 @@
 -- Sums of signed amounts.
-use Rattle.std.proofs.Common.{◌≡◌, ℕ, ◌+◌, ◌^◌, ◌<◌, ◌≤◌, List, [], ◌∷◌, ◌++◌, length, get_or, take, ℤ, pos, negsuc, ◌+ℤ◌, nat_abs, ap, ◌∙◌, arith, SFits}
+use Rattle.std.proofs.Common.{◌≡◌, ℕ, ◌+◌, ◌<◌, List, [], ◌∷◌, ◌++◌, length, get_or, take, ℤ, pos, ◌+ℤ◌, ap, ◌∙◌, arith}
 use borrow.Author.Differences.{ints}
-use mir.Syntax.{Width}
-use mir.Val.{hbits}
 use Rattle.std.proofs.lemmas.List.{take_more}
 use Rattle.sharing.specs.Laws.{sum_ℤ}
 
@@ -12,14 +10,3 @@ sum_ℤ_push (x ∷ xs) y = let e = sum_ℤ_push xs y in omega (arith, ints)
 
 pub sum_ℤ_more : (xs : List ℤ) (i : ℕ) → i < length xs → sum_ℤ (take (i + 1) xs) ≡ sum_ℤ (take i xs) +ℤ get_or xs i (pos 0)
 sum_ℤ_more xs i h = ap sum_ℤ (take_more xs i (pos 0) h) ∙ sum_ℤ_push (take i xs) (get_or xs i (pos 0))
-
-pub size_sum : (a b : ℤ) → nat_abs (a +ℤ b) ≤ nat_abs a + nat_abs b
-size_sum (pos a) (pos b) = omega (arith, ints)
-size_sum (pos a) (negsuc b) = omega (arith, ints)
-size_sum (negsuc a) (pos b) = omega (arith, ints)
-size_sum (negsuc a) (negsuc b) = omega (arith, ints)
-
--- a number of a signed type is no larger in size than the type's least
-pub size_fits : (w : Width) (z : ℤ) → SFits w z → nat_abs z ≤ 2 ^ hbits w
-size_fits w (pos n) f = omega (arith, f.sfits)
-size_fits w (negsuc n) f = omega (arith, f.sfits)

@@ -1,5 +1,5 @@
 -- The rules by name.
-use Rattle.std.specs.Prelude.{ℕ, List, ℤ, codes}
+use Rattle.std.specs.Prelude.{◌≡◌, ℕ, List, ℤ, Result, MatchResult, codes, ◌≢◌}
 use Rattle.sharing.specs.Amounts.{either_sign}
 use Rattle.sharing.specs.Prefixes.{running}
 use Rattle.sharing.specs.Turns.{in_turn}
@@ -17,3 +17,7 @@ most_by InTurn = 32
 abbrev pub name_of : NamedRule → List ℕ
 name_of Running = codes "running"
 name_of InTurn = codes "in-turn"
+
+-- a text is read as what has it for a name; a text that is nobody's name is refused
+abbrev pub ReadsName : {A E : Type 0} → (A → List ℕ) → List ℕ → Result A E → Type 0
+ReadsName {A = A} name text result = MatchResult result (λ one. text ≡ name one) (λ _. (one : A) → text ≢ name one)

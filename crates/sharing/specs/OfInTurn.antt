@@ -162,8 +162,11 @@ in_turn_amounts = record {
   none = λ t ws k h z. none_each t ws k h z;
 }
 
+pub in_turn_day : 25 ≤ 32
+in_turn_day = omega arith
+
 pub in_turn_laws : Laws (either_sign in_turn) 32
-in_turn_laws = laws_of in_turn_amounts 32 (omega arith)
+in_turn_laws = laws_of in_turn_amounts 32 in_turn_day
 
 module _ (total : ℤ) (ws : List ℕ) (memory : List ℤ) where
   abbrev written : ℕ → ℤ

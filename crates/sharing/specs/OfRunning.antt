@@ -103,5 +103,8 @@ running_sums total ws memory k h =
     take-append-le k s memory l ∙ take-map (with_sign_of total) k (map f (range_with_len 0 (length ws))) ∙ ap (map (with_sign_of total)) (take-map-range_with_len f 0 (length ws) k h) in
     ap sum_ℤ e ∙ sum_signs total (map f (range_with_len 0 k)) ∙ ap (with_sign_of total) (telescope (unsigned_abs total) ws k)
 
+pub running_day : 25 ≤ 64
+running_day = omega arith
+
 pub running_laws : Laws (either_sign running) 64
-running_laws = laws_of running_amounts 64 (omega arith)
+running_laws = laws_of running_amounts 64 running_day

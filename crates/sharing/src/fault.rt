@@ -56,6 +56,8 @@ impl Layer {
 }
 
 /// Why something is refused: each layer has an enum of its faults, and each fault a notice.
+///
+/// `Display` is std's, and no impl of it can be given for every `F: Fault`: each enum that is shown has its own.
 pub trait Fault {
     ghost number_of: { Self → ℕ };
 

@@ -10,10 +10,8 @@ mod tests;
 pub mod weight;
 
 pub use fault::{Fault, Layer, Notice, ShareFault};
-pub use rule::cents::Division;
-pub use rule::dealing::{Dealer, share_by};
 pub use rule::in_turn::InTurn;
-pub use rule::named::NamedRule;
+pub use rule::named::{NamedRule, UnknownRule};
 pub use rule::running::Running;
-pub use rule::{SharingRule, apportion};
+pub use rule::{SharingRule, apportion, share_by};
 pub use weight::{Weighted, total_weight};

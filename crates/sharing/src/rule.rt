@@ -1,6 +1,6 @@
 //! The trait of a sharing rule, and the questions that a rule accepts.
-pub mod cents;
-pub mod dealing;
+mod cents;
+mod dealing;
 pub mod in_turn;
 pub mod named;
 pub mod running;
@@ -12,6 +12,7 @@ ghost use Rattle.sharing.specs.Question.{judged, Refused, answer, left_in};
 
 use crate::fault::ShareFault;
 use crate::weight::{Weighted, total_weight};
+pub use dealing::share_by;
 
 /// The largest total in size, in cents.
 pub const GREATEST_TOTAL: u64 = 1_000_000_000;
@@ -27,6 +28,9 @@ pub trait SharingRule {
         ensures { result ≡ greatest self.now };
 
     /// Writes the shares of `total` to the front of `out`, one for each of `items`, or refuses and alters nothing.
+    ///
+    /// The three stay apart, since each has an owner of its own: the total is the hour's, the items are the file's, and the
+    /// memory is the caller's.
     fn share<T: Weighted>(&self, total: i64, items: &[T], out: &mut [i64]) -> Result<(), ShareFault>
         ensures answers { result ≡ answer (judged (greatest self.now) (length out.old) total (map T.Weighted.weight items.now)) }
         ensures leaves { out.new ≡ left_in (judged (greatest self.now) (length out.old) total (map T.Weighted.weight items.now)) (shares self.now total (map T.Weighted.weight items.now)) out.old };

@@ -89,7 +89,7 @@ module _ {A E : Type 0} (ask : ℕ → Result A E) where
       by_means (Ok ys) m = ap (λ zs. Ok zs) (ext_get_or d ys xs (m.one_each ∙ sym l)
           (λ k h. same (get_or ys k d) (get_or xs k d) (sym (m.said k d (omega (arith, m.one_each))) ∙ said k (omega (arith, m.one_each)))))
       by_means (Err e) m = let w : ◌≡◌ {A = Result A E} (Ok (get_or xs m.which d)) (Err e) = sym (said m.which m.among) ∙ m.said in
-          let z : ◌≡◌ {A = ℕ} 0 1 = cc in absurd (omega arith)
+          absurd cc
 
 -- questions with the same answers
 pub same_answers : {A E : Type 0} (ask again : ℕ → Result A E) (n : ℕ) → ((k : ℕ) → k < n → ask k ≡ again k) → each ask n ≡ each again n

@@ -3,10 +3,12 @@ use Rattle.std.proofs.Common.{◌≡◌, ℕ, ◌+◌, ◌-◌, ◌*◌, ◌<◌
 use Rattle.std.proofs.lemmas.List.{length-take-le, length-append, get_or_append_left, get_or-take}
 use Rattle.std.proofs.lemmas.Nat.{mul-le}
 use Rattle.std.proofs.lemmas.Bool.{cases_eq, false≢true}
-use Rattle.words.specs.Values.{Wrong, judged, value_at}
+use Rattle.std.proofs.lemmas.Bool.Decides.{nat_tests}
+use Rattle.words.specs.Each.{each}
+use Rattle.words.specs.Values.{Wrong, value_at}
 use Rattle.words.specs.Faults.{Placed}
-use Rattle.words.specs.Rows.{nothing_but_zero, row, rows, Row, FirstWrong}
-use Rattle.words.proofs.Judging.{means_of, value_read, at_word}
+use Rattle.words.specs.Rows.{nothing_but_zero, row, rows, Row, FirstWrong, StandsAtFault}
+use Rattle.words.proofs.Judging.{means_of, value_read}
 use Rattle.words.proofs.InTurn.{all_answers, all_answered, a_fault, same_answers}
 use Rattle.words.specs.declared.fault.WordFault.{WordFault}
 use Rattle.words.specs.declared.fault.WordFault.TheVariants.{WrongKind, Ended, OutOfRange}
@@ -32,6 +34,20 @@ module _ (limits : List Limits) (at : ℕ) (words : List ℕ) where
         before = λ k h. (let b = a.before k h in (b.0, means_of (get_or limits k nothing_but_zero) (at + k) words (Ok b.0) (sym b.1)));
         wrong = means_of (get_or limits a.which nothing_but_zero) (at + a.which) words (Err f) (sym a.said);
       }
+
+  -- a reader that has read i values of a row stands at the first fault
+  pub stands_at : (i : ℕ) (before : List ℤ) (f : WordFault) (place : ℕ) → i < length limits → each asked i ≡ Ok before → asked i ≡ Err f → place ≡ at + i
+      → StandsAtFault limits at words f place
+  stands_at i before f place h read wrong there =
+      let a = all_answers asked i before read in (
+        record {
+          which = i;
+          among = h;
+          before = λ k l. (get_or before k (pos 0), means_of (get_or limits k nothing_but_zero) (at + k) words (Ok (get_or before k (pos 0))) (sym (a.said k (pos 0) l)));
+          wrong = means_of (get_or limits i nothing_but_zero) (at + i) words (Err f) (sym wrong);
+        },
+        there,
+      )
 
   -- a row that is in order is read
   pub row_read : (values : List ℤ) → Row limits at words values → row limits at words ≡ Ok values
@@ -80,10 +96,12 @@ rows_inside limits n at words rs e =
 
 -- what is read does not depend on the words behind it
 pub value_kept : (limits : Limits) (at n : ℕ) (words rest : List ℕ) → at < n → n ≤ length words → value_at limits at (take n words ++ rest) ≡ value_at limits at words
+unfolding value_at
 value_kept limits at n words rest h k =
     let l : length (take n words) ≡ n = length-take-le n words k in
     let w : get_or (take n words ++ rest) at 0 ≡ get_or words at 0 = get_or_append_left (take n words) rest 0 at (omega arith) ∙ get_or-take n words at 0 h in
-    at_word limits at (take n words ++ rest) (omega (arith, length-append (take n words) rest)) ∙ ap (judged limits at) w ∙ sym (at_word limits at words (omega arith))
+    let there : at < length (take n words ++ rest) = omega (arith, length-append (take n words) rest) in
+    grind (arith, nat_tests, w, there)
 
 pub row_kept : (limits : List Limits) (at n : ℕ) (words rest : List ℕ) → at + length limits ≤ n → n ≤ length words → row limits at (take n words ++ rest) ≡ row limits at words
 row_kept limits at n words rest h k = same_answers (asked limits at (take n words ++ rest)) (asked limits at words) (length limits)

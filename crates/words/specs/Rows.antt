@@ -21,6 +21,15 @@ pub record FirstWrong (limits : List Limits) (at : ℕ) (words : List ℕ) (faul
   pub before : (k : ℕ) → k < which → (z : ℤ) × InOrder (slice_index_or limits k nothing_but_zero) (at + k) words z
   pub wrong : Wrong (slice_index_or limits which nothing_but_zero) (at + which) words fault
 
+-- the place is that of the row's first fault
+abbrev pub StandsAtFault : List Limits → ℕ → List ℕ → WordFault → ℕ → Type 0
+StandsAtFault limits at words fault place = (first : FirstWrong limits at words fault) × (place ≡ at + first.which)
+
+-- the place is that of the fault of one of n rows, one behind the other
+abbrev pub StandsAtFaultOfRows : List Limits → ℕ → ℕ → List ℕ → WordFault → ℕ → Type 0
+StandsAtFaultOfRows limits n at words fault place =
+    (k : ℕ) × (k < n) × StandsAtFault limits (at + length limits * k) words fault place
+
 -- the values of a row, or its first fault
 abbrev pub row : List Limits → ℕ → List ℕ → Result (List ℤ) WordFault
 row limits at words = each (λ k. value_at (slice_index_or limits k nothing_but_zero) (at + k) words) (length limits)

@@ -1,9 +1,15 @@
 -- Values within limits: what a word holds, and what is wrong with one that does not hold what it should.
-use Rattle.std.specs.Prelude.{◌≡◌, ℕ, ◌<◌, ◌≤◌, cond, ◌||◌, ◌⊎◌, List, length, ℤ, pos, neg_ℤ, ◌≤ℤ◌, Ok, Err, Result, ◌==◌, ◌≢◌, int_lt, nat_lt, slice_index}
+use Rattle.std.specs.Prelude.{◌≡◌, ℕ, ◌<◌, ◌≤◌, cond, ◌||◌, ◌⊎◌, List, length, ℤ, pos, neg_ℤ, ◌≤ℤ◌, Ok, Err, Option, Some, None, Result, ◌==◌, ◌≢◌, int_lt, nat_lt, slice_index}
 use Rattle.words.specs.Split.{kind, content}
 use Rattle.words.specs.declared.fault.WordFault.{WordFault}
 use Rattle.words.specs.declared.fault.WordFault.TheVariants.{WrongKind, Ended, OutOfRange}
+use Rattle.words.specs.declared.head.Sign.{Sign}
+use Rattle.words.specs.declared.head.Sign.TheVariants.{Plus, Minus}
 use Rattle.words.specs.declared.value.Limits.{Limits}
+
+-- the sign of the value that a word of this kind is: kind 0 its content, kind 7 minus its content
+abbrev pub sign : ℕ → Option Sign
+sign w = cond (kind w == 0) (Some Plus) (cond (kind w == 7) (Some Minus) None)
 
 -- the word holds the value: kind 0 its content, kind 7 minus its content of at least 1
 abbrev pub Holds : ℕ → ℤ → Type 0

@@ -3,9 +3,10 @@
 
 pub mod fault;
 pub mod head;
-pub mod row;
+pub mod reader;
 pub mod value;
 
 pub use fault::WordFault;
-pub use row::{read_row, read_rows};
-pub use value::{Limits, read_value};
+pub use head::{Sign, Word};
+pub use reader::Reader;
+pub use value::Limits;

@@ -1,6 +1,7 @@
 //! The terms of a must-run unit's standby payment, and the payment of an hour.
 ghost use Rattle.std.specs.Prelude.{◌≡◌, ◌*◌, ◌^◌, ◌<◌, ◌≤◌};
 ghost use Rattle.charges.specs.Standby.{cost, capacity_factor, availability_factor, incentive_factor, pays, amount_of};
+ghost use Rattle.charges.specs.StandbyBlock.{basis_of};
 ghost use Rattle.charges.specs.StandbyLaws.{LawfulPay};
 
 use crate::block::GREATEST_AMOUNT;
@@ -20,6 +21,24 @@ const WHOLE_WINDOW: u64 = 43_800_000;
 pub enum Basis {
     Estimated,
     Filed,
+}
+
+impl From<u32> for Basis {
+    ghost from_gives = { λ number basis. basis ≡ basis_of number };
+
+    fn from(number: u32) -> Basis {
+        match number {
+            0 => Basis::Estimated,
+            _ => Basis::Filed,
+        }
+    }
+}
+
+/// An hour of the day, and the hours of the window before it in which the unit was available.
+#[derive(Clone, Copy, PartialEq, Eq, Debug)]
+pub struct StandbyHour {
+    pub hour: usize,
+    pub available: u32,
 }
 
 /// A unit's capacity in kW: that of the contract (CCAP), as tested (TCAP), and the adjustment of the test (TCAPA).
@@ -55,17 +74,17 @@ pub struct Availability {
 }
 
 impl Availability {
-    /// The availability factor A (RMRARF) of an hour, in millionths; `available` hours were available in the window.
-    pub fn factor(&self, hour: usize, available: u32) -> u64
-        ensures is { result ≡ availability_factor self.now hour available }
+    /// The availability factor A (RMRARF) of an hour, in millionths.
+    pub fn factor(&self, at: StandbyHour) -> u64
+        ensures is { result ≡ availability_factor self.now at.hour at.available }
         ensures most { result ≤ 1000000 }
     {
-        let elapsed = u128::from(self.elapsed_hours) + hour as u128;
+        let elapsed = u128::from(self.elapsed_hours) + at.hour as u128;
         if 6 * elapsed < u128::from(self.term_hours) {
             return FULL;
         }
         let wanted = WINDOW_HOURS * u64::from(self.target);
-        let reached = 10_000 * u64::from(available);
+        let reached = 10_000 * u64::from(at.available);
         if wanted <= reached {
             return FULL;
         }
@@ -96,12 +115,12 @@ impl StandbyTerms {
     }
 
     /// The incentive factor F of an hour, in millionths.
-    pub fn incentive_factor(&self, hour: usize, available: u32) -> u128
-        ensures is { result ≡ incentive_factor self.now hour available }
+    pub fn incentive_factor(&self, at: StandbyHour) -> u128
+        ensures is { result ≡ incentive_factor self.now at.hour at.available }
         ensures bound { result < 2 ^ 39 }
     {
         let capacity = u128::from(self.capacity.factor());
-        let availability = u128::from(self.availability.factor(hour, available));
+        let availability = u128::from(self.availability.factor(at));
         u128::from(self.incentive) * capacity * availability / 10_000_000_000
     }
 
@@ -112,10 +131,11 @@ impl StandbyTerms {
         u64::from(self.agreement_hours) * FULL
     }
 
-    /// What the unit is paid for an hour, in cents (RMRSBPR); `available` hours were available in the window.
-    pub fn pay_cents(&self, trued_up: bool, hour: usize, available: u32) -> u128
-        ensures is { result ≡ pays self.now trued_up hour available }
-        ensures lawful { LawfulPay self.now trued_up hour available result }
+    /// What the unit is paid for an hour, in cents (RMRSBPR).
+    #[tactic(auto, using(crate::proofs::OfStandby::lawful_pay))]
+    pub fn pay_cents(&self, trued_up: bool, at: StandbyHour) -> u128
+        ensures is { result ≡ pays self.now trued_up at.hour at.available }
+        ensures lawful { LawfulPay self.now trued_up at.hour at.available result }
     {
         let cost = u128::from(self.cost_cents());
         match self.basis {
@@ -123,17 +143,17 @@ impl StandbyTerms {
             Basis::Estimated if trued_up => 0,
             Basis::Estimated => cost,
             Basis::Filed => {
-                let paid = u128::from(FULL) + self.incentive_factor(hour, available);
+                let paid = u128::from(FULL) + self.incentive_factor(at);
                 nearest(cost * paid, self.agreement_parts())
             }
         }
     }
 
     /// The amount of an hour (RMRSBAMT): a payment, and so negative, if it is within the limit.
-    pub fn amount(&self, trued_up: bool, hour: usize, available: u32) -> Result<i64, BlockFault>
-        ensures { result ≡ amount_of self.now trued_up hour available }
+    pub fn amount(&self, trued_up: bool, at: StandbyHour) -> Result<i64, BlockFault>
+        ensures { result ≡ amount_of self.now trued_up at.hour at.available }
     {
-        let pay = self.pay_cents(trued_up, hour, available);
+        let pay = self.pay_cents(trued_up, at);
         if GREATEST_AMOUNT < pay {
             return Err(BlockFault::AmountOverLimit);
         }

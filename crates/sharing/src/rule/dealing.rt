@@ -1,14 +1,16 @@
 //! What the rules have in common that deal an amount out sharer by sharer: all but the share of one sharer.
+//!
+//! The traits are the crate's own: their methods ask something of their caller, which is `share_by` alone.
 ghost use Rattle.std.specs.Prelude.{◌≡◌, ℕ, ◌≤◌, ◌++◌, List, map, length, drop, ℤ, sum, OnOk, unsigned_abs};
 ghost use Rattle.sharing.specs.Amounts.{either_sign, by_place};
-ghost use Rattle.sharing.specs.BothSigns.{AmountLaws};
+ghost use Rattle.sharing.specs.BothSigns.{AmountLaws, laws_of};
 ghost use Rattle.sharing.specs.Dealing.{Dealt};
 ghost use Rattle.sharing.specs.Question.{greatest_total, judged, answer, left_in};
 ghost use Rattle.sharing.specs.Weighing.{ReadAt};
 
 use crate::fault::ShareFault;
 use crate::rule::cents::{Division, with_sign_of};
-use crate::rule::judge;
+use crate::rule::{SharingRule, judge};
 use crate::weight::Weighted;
 
 /// What a rule remembers while it deals an amount out, one share after another.
@@ -37,11 +39,39 @@ pub trait Dealer: Drop {
         requires { (amount : ℕ) × (ws : List ℕ) × (k : ℕ) × ReadAt ws k weight × Ready self.old amount ws k }
         ensures { (amount : ℕ) (ws : List ℕ) (k : ℕ) → ReadAt ws k weight → Ready self.old amount ws k → Dealt share_at (Ready self.new) amount ws k result };
 
+    ghost takes_a_day: { 25 ≤ greatest };
+
     ghost each_place: { (amount : ℕ) (ws : List ℕ) → shares amount ws ≡ by_place (share_at amount ws) ws };
 
     ghost lawful: { AmountLaws shares };
 
     ghost says: { (total : ℤ) (ws : List ℕ) (memory : List ℤ) → Sentence total ws (either_sign shares total ws ++ memory) };
+}
+
+/// A sharing rule that is all in how it deals.
+pub trait DealingRule {
+    type DealtBy: Dealer;
+}
+
+impl<R: DealingRule> SharingRule for R {
+    ghost shares = { λ _. either_sign R.DealtBy.shares };
+
+    ghost greatest = { λ _. R.DealtBy.greatest };
+
+    ghost fair = { λ rule. laws_of R.DealtBy.lawful R.DealtBy.greatest R.DealtBy.takes_a_day };
+
+    fn greatest(&self) -> usize {
+        R::DealtBy::greatest()
+    }
+
+    fn share<T: Weighted>(
+        &self,
+        total: i64,
+        items: &[T],
+        out: &mut [i64],
+    ) -> Result<(), ShareFault> {
+        share_by::<R::DealtBy, T>(total, items, out)
+    }
 }
 
 /// Shares `total` among `items` as a dealer deals amounts, with the rule's own sentence.

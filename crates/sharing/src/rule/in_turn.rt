@@ -1,38 +1,18 @@
 //! The in-turn rule: floors, and the cents left over one each to the first sharers with a weight.
 ghost use Rattle.std.specs.Prelude.{◌≡◌, ◌≤◌, ◌&&◌, map, if◌then◌else◌, sum_by, sum, nat_lt};
-ghost use Rattle.sharing.specs.Amounts.{either_sign};
 ghost use Rattle.sharing.specs.Turns.{floor_share, has_weight, in_turn, in_turn_share, InTurnShares};
-ghost use Rattle.sharing.specs.OfInTurn.{ReadyAt, in_turn_each, in_turn_amounts, in_turn_shares, in_turn_laws};
+ghost use Rattle.sharing.specs.OfInTurn.{ReadyAt, in_turn_each, in_turn_amounts, in_turn_shares, in_turn_day};
 
-use crate::fault::ShareFault;
-use crate::rule::SharingRule;
 use crate::rule::cents::Division;
-use crate::rule::dealing::{Dealer, share_by};
+use crate::rule::dealing::{Dealer, DealingRule};
 use crate::weight::Weighted;
 
 /// Each sharer gets the floor of its part; the first sharers get one cent more while cents are left over.
 #[derive(Clone, Copy, PartialEq, Eq, Debug)]
 pub struct InTurn;
 
-impl SharingRule for InTurn {
-    ghost shares = { λ _. either_sign in_turn };
-
-    ghost greatest = { λ _. 32 };
-
-    ghost fair = { λ rule. in_turn_laws };
-
-    fn greatest(&self) -> usize {
-        InTurnDealer::greatest()
-    }
-
-    fn share<T: Weighted>(
-        &self,
-        total: i64,
-        items: &[T],
-        out: &mut [i64],
-    ) -> Result<(), ShareFault> {
-        share_by::<InTurnDealer, T>(total, items, out)
-    }
+impl DealingRule for InTurn {
+    type DealtBy = InTurnDealer;
 }
 
 /// How many of the cents that the floors leave over are still left.
@@ -52,6 +32,8 @@ impl Dealer for InTurnDealer {
     ghost Sentence = { InTurnShares };
 
     ghost Ready = { λ d amount ws k. ReadyAt d.division.amount d.division.all d.left amount ws k };
+
+    ghost takes_a_day = { in_turn_day };
 
     ghost each_place = { in_turn_each };
 

@@ -1,13 +1,15 @@
 //! The rules by name, for callers that choose one while they run.
 ghost use Rattle.std.specs.Prelude.{Some};
-ghost use Rattle.sharing.specs.Named.{shares_by, most_by, name_of};
+ghost use Rattle.sharing.specs.Named.{shares_by, most_by, name_of, ReadsName};
 ghost use Rattle.sharing.specs.OfNamed.{named_laws};
 
 use crate::fault::ShareFault;
 use crate::rule::{SharingRule, in_turn, running};
 use crate::weight::Weighted;
 use std::fmt;
+use std::str::FromStr;
 
+/// A rule that is chosen while the program runs. It is an enum, since a `dyn SharingRule` can't have the generic `share`.
 #[derive(Clone, Copy, PartialEq, Eq, Debug)]
 pub enum NamedRule {
     Running,
@@ -50,5 +52,23 @@ impl fmt::Display for NamedRule {
             NamedRule::InTurn => "in-turn",
         };
         f.write_str(name)
+    }
+}
+
+/// The text is no rule's name.
+#[derive(Clone, Copy, PartialEq, Eq, Debug)]
+pub struct UnknownRule;
+
+impl FromStr for NamedRule {
+    type Err = UnknownRule;
+
+    ghost from_str_gives = { ReadsName name_of };
+
+    fn from_str(text: &str) -> Result<NamedRule, UnknownRule> {
+        match text {
+            "running" => Ok(NamedRule::Running),
+            "in-turn" => Ok(NamedRule::InTurn),
+            _ => Err(UnknownRule),
+        }
     }
 }

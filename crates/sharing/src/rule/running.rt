@@ -1,37 +1,17 @@
 //! The running rule: the first k sharers together get the floor of their part.
-ghost use Rattle.sharing.specs.Amounts.{either_sign};
 ghost use Rattle.sharing.specs.Prefixes.{running, running_share, RunningSums};
-ghost use Rattle.sharing.specs.OfRunning.{ReadyAt, running_each, running_amounts, running_sums, running_laws};
+ghost use Rattle.sharing.specs.OfRunning.{ReadyAt, running_each, running_amounts, running_sums, running_day};
 
-use crate::fault::ShareFault;
-use crate::rule::SharingRule;
 use crate::rule::cents::Division;
-use crate::rule::dealing::{Dealer, share_by};
+use crate::rule::dealing::{Dealer, DealingRule};
 use crate::weight::Weighted;
 
 /// Each sharer gets what the floor rises by when the sharer joins those before.
 #[derive(Clone, Copy, PartialEq, Eq, Debug)]
 pub struct Running;
 
-impl SharingRule for Running {
-    ghost shares = { λ _. either_sign running };
-
-    ghost greatest = { λ _. 64 };
-
-    ghost fair = { λ rule. running_laws };
-
-    fn greatest(&self) -> usize {
-        RunningDealer::greatest()
-    }
-
-    fn share<T: Weighted>(
-        &self,
-        total: i64,
-        items: &[T],
-        out: &mut [i64],
-    ) -> Result<(), ShareFault> {
-        share_by::<RunningDealer, T>(total, items, out)
-    }
+impl DealingRule for Running {
+    type DealtBy = RunningDealer;
 }
 
 /// How much weight the sharers so far have, and what they were given together.
@@ -52,6 +32,8 @@ impl Dealer for RunningDealer {
     ghost Sentence = { RunningSums };
 
     ghost Ready = { λ d amount ws k. ReadyAt d.division.amount d.division.all d.weight_so_far d.given amount ws k };
+
+    ghost takes_a_day = { running_day };
 
     ghost each_place = { running_each };
 

@@ -1,21 +1,17 @@
-use Rattle.std.proofs.Common.{length, sym, arith}
+use Rattle.std.proofs.Common.{◌≡◌, ℕ, ◌+◌, List, length, drop, ap, arith, length-drop}
 use Rattle.std.specs.Char.{is_ascii_whitespace}
 use Rattle.std.specs.List.{prefix_len}
-use Rattle.std.proofs.lemmas.List.Sums.{prefix_len-drop_yes, prefix_len-drop_no, prefix_len-drop_all}
-use Rattle.std.proofs.lemmas.Bool.{eq-eqb, ne_eqb}
+use Rattle.std.proofs.lemmas.Str.Ascii.{trim_ascii_start_is}
+use Rattle.std.proofs.lemmas.List.Sums.{prefix_len-le-length}
+use Rattle.std.proofs.lemmas.Bool.Decides.{nat_tests}
 use Rattle.settle.proofs.desk.is_blank.Goals as goal
 
-pub loop-byte-preserved : goal.loop-byte-preserved
-loop-byte-preserved c =
-    omega (arith, prefix_len-drop_yes is_ascii_whitespace c.args.line.now c.loop-byte.byte-index 0 c.loop-byte-test.true (sym c.if-not-is_ascii_whitespace.ensures.value))
-
-pub returns-then-not-is_ascii_whitespace : goal.returns-then-not-is_ascii_whitespace
-returns-then-not-is_ascii_whitespace c =
-    let line = c.args.line.now in
-    let n = prefix_len-drop_no is_ascii_whitespace line c.loop-byte.byte-index 0 c.loop-byte-test.true (sym c.if-not-is_ascii_whitespace.ensures.value) in
-    sym (ne_eqb (prefix_len is_ascii_whitespace line) (length line) (λ e. omega arith))
+-- what is left after the white space is empty exactly where it is the whole line
+rest_of : (line rest : List ℕ) → rest ≡ drop (prefix_len is_ascii_whitespace line) line → length rest + prefix_len is_ascii_whitespace line ≡ length line
+rest_of line rest e = omega (arith, ap length e, length-drop (prefix_len is_ascii_whitespace line) line, prefix_len-le-length is_ascii_whitespace line)
 
 pub returns : goal.returns
 returns c =
     let line = c.args.line.now in
-    sym (eq-eqb (prefix_len is_ascii_whitespace line) (length line) (omega (arith, prefix_len-drop_all is_ascii_whitespace line c.loop-byte.byte-index c.loop-byte-test.false)))
+    let rest = rest_of line _ (trim_ascii_start_is line _ c.trim_ascii_start.ensures.value) in
+    grind (arith, nat_tests)
