@@ -21,6 +21,7 @@ pub struct Block {
 }
 
 /// Writes the block's amounts to all of `hours`, or zeros if it has a fault, and answers its length.
+// That the hours are within a day is no type's: see `judge_call`.
 pub(crate) fn deliver(
     block: Result<Block, BlockFault>,
     hours: &mut [i64],
@@ -29,6 +30,7 @@ pub(crate) fn deliver(
     ensures answers { result ≡ delivered block }
     ensures leaves { hours.new ≡ put_by (length hours.old) block }
 {
+    // A match and no `?`: either end writes the hours.
     match block {
         Ok(block) => {
             let n = hours.len();
@@ -37,7 +39,7 @@ pub(crate) fn deliver(
         }
         Err(fault) => {
             hours.fill(0);
-            Err(ChargeFault::Block(fault))
+            Err(ChargeFault::from(fault))
         }
     }
 }

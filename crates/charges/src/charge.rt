@@ -4,6 +4,7 @@ ghost use Rattle.charges.specs.Outcome.{Outcome, judged, answer, left_in};
 ghost use Rattle.charges.specs.declared.charge.Asked.{Asked};
 ghost use Rattle.charges.specs.Laws.{DayLong, Laws, Paying, Refused};
 
+use crate::block::MOST_HOURS;
 use crate::fault::ChargeFault;
 
 /// What a charge type is asked about a block.
@@ -39,14 +40,14 @@ pub trait ChargeType {
 }
 
 /// Whether a type may be asked at all: the day has 23 to 25 hours, and there is room for them.
-// A type for a day that was judged, with this in a ghost field, is no plainer: what delivers a block still needs its part of the
-// hours to be no longer than a day.
+// A type for a day that was judged, with `means` in a ghost field, is no plainer: what reads a block, what pays its counts and
+// what delivers it each need another length to be within a day.
 #[tactic(auto, unfolding(crate::specs::Outcome::judged))]
 pub(crate) fn judge_call(asked: Asked, room: usize) -> Result<(), ChargeFault>
     ensures is { result ≡ judged asked room }
     ensures means { IfOk result (λ _. DayLong asked × (asked.hours ≤ room)) }
 {
-    if asked.hours < 23 || 25 < asked.hours {
+    if !(23..=MOST_HOURS).contains(&asked.hours) {
         return Err(ChargeFault::HoursOutOfRange);
     }
     if room < asked.hours {
@@ -56,6 +57,8 @@ pub(crate) fn judge_call(asked: Asked, room: usize) -> Result<(), ChargeFault>
 }
 
 /// Lends a charge type the part of the caller's hourly memory that begins at a place.
+///
+/// A part that begins past the end of the memory is refused, by 13, and so is no slice of the caller's making.
 ///
 /// This is `ChargeType::charge` with what the laws give: a block that is paid keeps its limits, and a refusal is for a
 /// fault that the question has.

@@ -24,6 +24,7 @@ pub struct Standby;
 const KIND: u32 = 3;
 
 /// The limits of the values behind the head.
+// A table of its own, in the order in which `StandbyTerms::from` names the values: one reader serves the tables of all types.
 const TERMS: [Limits; 11] = [
     // Basis: 0 estimated, 1 filed.
     Limits { low: 0, high: 1 },
@@ -104,6 +105,7 @@ pub fn charge_standby(words: &[u32], asked: Asked, hours: &mut [i64]) -> Result<
 }
 
 /// Reads the block, and then works out the amounts of its hours.
+// That the hours are within a day is no type's, here and in `pay_hours`: see `judge_call`.
 fn read_block(words: &[u32], asked: Asked) -> Result<Block, BlockFault>
     requires { asked.hours ≤ 25 }
     ensures { result ≡ block_of (standby words.now asked) }
@@ -131,6 +133,7 @@ fn pay_hours(
     let mut amounts = [0; MOST_HOURS];
     for (hour, [count]) in counts.iter().enumerate() {
         let available = count.unsigned_abs();
+        // The index serves the write too: a zip over `amounts.iter_mut()` loses what is written.
         amounts[hour] = terms.amount(trued_up, StandbyHour { hour, available })?;
     }
     Ok(amounts)

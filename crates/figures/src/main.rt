@@ -24,6 +24,7 @@ fn print_tried(rt: HostRuntime, figures: &[Figure]) -> io::Result<()> {
     Ok(())
 }
 
+/// How the trial of a figure went.
 fn found(figure: Figure) -> &'static str {
     if try_figure(figure) {
         "as given"

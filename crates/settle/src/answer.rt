@@ -62,7 +62,6 @@ pub fn answer_text(heap: Global, answer: &Answer) -> Result<String, AllocError>
 fn amounts_text(mut line: String, amounts: &[i64]) -> Result<String, AllocError>
     ensures { IfOk result (λ whole. string_bytes whole ≡ with_amounts (string_bytes line) amounts.now) }
 {
-    // A loop, since each step allocates and may fail.
     for amount in amounts {
         write!(line, " {amount}")?;
     }

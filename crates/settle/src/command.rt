@@ -48,6 +48,22 @@ pub enum Field {
     Word,
 }
 
+impl Field {
+    /// What the field may be; `Display` names it.
+    fn expected(self) -> &'static str {
+        match self {
+            Field::Command => "share, block or tally",
+            Field::Rule => "running or in-turn",
+            Field::Room | Field::Hours => "an unsigned 64-bit number",
+            Field::Total => "a signed 64-bit number",
+            Field::Weight => "an unsigned 32-bit number",
+            Field::Charge => "standby",
+            Field::Trued => "0 or 1",
+            Field::Word => "an unsigned 32-bit number, in decimal or 0x hexadecimal",
+        }
+    }
+}
+
 impl fmt::Display for Field {
     fn fmt<W: fmt::Write>(&self, f: &mut fmt::Formatter<W>) -> fmt::Result {
         let name = match self {
@@ -114,26 +130,12 @@ impl fmt::Display for Unread {
                     f,
                     "field {}: {field} is not {}",
                     place(*at),
-                    expected(*field)
+                    field.expected()
                 )
             }
             Unread::Surplus { at } => write!(f, "field {}: one field too many", place(*at)),
             Unread::NoMemory => f.write_str("no memory to read it"),
         }
-    }
-}
-
-/// What a field may be.
-fn expected(field: Field) -> &'static str {
-    match field {
-        Field::Command => "share, block or tally",
-        Field::Rule => "running or in-turn",
-        Field::Room | Field::Hours => "an unsigned 64-bit number",
-        Field::Total => "a signed 64-bit number",
-        Field::Weight => "an unsigned 32-bit number",
-        Field::Charge => "standby",
-        Field::Trued => "0 or 1",
-        Field::Word => "an unsigned 32-bit number, in decimal or 0x hexadecimal",
     }
 }
 

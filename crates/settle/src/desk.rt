@@ -26,6 +26,7 @@ pub fn answer_line(
     if is_skipped(bytes) {
         return Ok(None);
     }
+    // A match and no `?`: either end is counted.
     let answer = match read_line(heap, bytes) {
         Ok(command) => carry_out(heap, tally, command)?,
         Err(unread) => {
@@ -107,6 +108,7 @@ impl From<AllocError> for Undone {
 fn carry_out(heap: Global, tally: &mut Tally, command: Command) -> Result<Answer, AllocError>
     ensures { IfOk result (λ a. Done tally.old command a tally.new) }
 {
+    // One match over the three ends; a closure for `or_else` would take the tally along.
     match perform(heap, tally, command) {
         Ok(answer) => Ok(answer),
         Err(Undone::Refused(refusal)) => {
@@ -118,6 +120,7 @@ fn carry_out(heap: Global, tally: &mut Tally, command: Command) -> Result<Answer
 }
 
 /// Does and counts what the command asks for.
+// A command's fields are taken apart here once; a struct for each command would be taken apart by the function that answers it.
 fn perform(heap: Global, tally: &mut Tally, command: Command) -> Result<Answer, Undone>
     ensures { MatchResult result (λ a. Done tally.old command a tally.new) (λ u. NotDone (Refuses command) u × (tally.new ≡ tally.old)) }
 {

@@ -69,7 +69,7 @@ impl Fault for FileFault {
     }
 }
 
-/// The fault of what begins at `head`, with its place in the file.
+/// The fault of what begins at `head`, with its place in the file; no `From`, which would not know the head.
 pub(crate) fn in_file(head: usize, fault: BlockFault) -> FileFault
     requires { head + place_in_block fault < 2 ^ 64 }
     ensures { result ≡ in_file head fault }

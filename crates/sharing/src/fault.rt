@@ -33,8 +33,9 @@ impl fmt::Display for Layer {
 /// What a refusal tells whoever asked.
 #[derive(Clone, Copy, PartialEq, Eq, Debug)]
 pub struct Notice {
+    /// The number by which callers outside the engine know the fault.
     pub number: u32,
-    /// Where the fault is; 0 where it has no place.
+    /// Where the fault is; 0, as it is told outside, where it has no place.
     pub place: usize,
     pub layer: Layer,
     /// The fault in plain words.

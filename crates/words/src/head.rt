@@ -19,7 +19,7 @@ pub enum Sign {
 pub struct Word(pub u32);
 
 impl Word {
-    /// What the word is.
+    /// What the word is: a number, since heads may be of kinds that are not known here.
     pub fn kind(self) -> u32
         ensures { result ≡ kind self.0 }
     {
@@ -32,7 +32,7 @@ impl Word {
         self.0 & 0xfff_ffff
     }
 
-    /// The sign of the value that the word is by its kind, if it is one.
+    /// The sign of the value that the word is by its kind: plus for 0, minus for 7, and none for the kinds of heads.
     pub fn sign(self) -> Option<Sign>
         ensures { result ≡ sign self.0 }
     {
@@ -80,6 +80,8 @@ pub fn first_kind(words: &[u32]) -> Option<u32>
 }
 
 /// The party in the head that begins the words, or what is wrong with it; `fits` says whether its kind may stand there.
+// A bool and no closure: what a kind is tested by is the caller's, and all that matters here is whether it fits.
+// One match shows the four cases in their order; `ok_or` and `?` would not.
 #[tactic(auto, unfolding(crate::specs::Heads::head_judged))]
 pub fn judge_head(words: &[u32], fits: bool) -> Result<u32, WordFault>
     ensures { result ≡ head_judged fits words.now }

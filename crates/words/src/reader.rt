@@ -52,6 +52,7 @@ impl<'a> Reader<'a> {
     {
         let mut values = [0; N];
         for (i, limit) in limits.iter().enumerate() {
+            // The index serves the write alone: a zip over `values.iter_mut()` loses what is written.
             values[i] = self.value(*limit)?;
         }
         Ok(values)

@@ -17,6 +17,7 @@ pub struct Limits {
 pub(crate) fn value_of(word: Word, place: usize, limits: Limits) -> Result<i32, WordFault>
     ensures { result ≡ judged limits place word.0 }
 {
+    // A content has 28 bits, so the cast fits; `try_from` would have an error that nothing can meet.
     let size = word.content() as i32;
     match word.sign() {
         Some(Sign::Plus) => within(size, place, limits),
@@ -30,7 +31,7 @@ pub(crate) fn value_of(word: Word, place: usize, limits: Limits) -> Result<i32, 
 fn within(value: i32, place: usize, limits: Limits) -> Result<i32, WordFault>
     ensures { result ≡ bounded limits place value }
 {
-    if value < limits.low || limits.high < value {
+    if !(limits.low..=limits.high).contains(&value) {
         return Err(WordFault::OutOfRange { place });
     }
     Ok(value)

@@ -11,9 +11,10 @@ use crate::rounding::nearest;
 /// A factor of one, in millionths.
 const FULL: u64 = 1_000_000;
 
-/// Half a year in hours, and all of its hours at ten thousand ten-thousandths.
+/// Half a year in hours.
 const WINDOW_HOURS: u64 = 4_380;
 
+/// The window's hours at ten thousand ten-thousandths.
 const WHOLE_WINDOW: u64 = 43_800_000;
 
 /// Whether the unit's costs are estimated, or were filed with the market.
@@ -26,6 +27,7 @@ pub enum Basis {
 impl From<u32> for Basis {
     ghost from_gives = { λ number basis. basis ≡ basis_of number };
 
+    /// A block's limits leave only 0 and 1.
     fn from(number: u32) -> Basis {
         match number {
             0 => Basis::Estimated,
@@ -79,6 +81,7 @@ impl Availability {
         ensures is { result ≡ availability_factor self.now at.hour at.available }
         ensures most { result ≤ 1000000 }
     {
+        // There is no `From<usize>` for `u128`.
         let elapsed = u128::from(self.elapsed_hours) + at.hour as u128;
         if 6 * elapsed < u128::from(self.term_hours) {
             return FULL;
@@ -157,6 +160,7 @@ impl StandbyTerms {
         if GREATEST_AMOUNT < pay {
             return Err(BlockFault::AmountOverLimit);
         }
+        // Within the limit, so the cast fits; `try_from` would have an error that nothing can meet.
         Ok(-(pay as i64))
     }
 }

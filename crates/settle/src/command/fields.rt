@@ -29,7 +29,7 @@ impl FromStr for Flag {
     }
 }
 
-/// A number of 32 bits, in decimal or, behind 0x, in hexadecimal.
+/// What a field WORD holds: a number of 32 bits, in decimal or, behind 0x, in hexadecimal.
 #[derive(Clone, Copy)]
 pub struct Word(pub u32);
 
@@ -56,6 +56,8 @@ impl From<Word> for u32 {
 }
 
 /// The text of the field at a place.
+// Fields, place and field stay apart: the grammar numbers the fields of each command, and so does who reads it; a reader that counts
+// along, or a pair of place and field, would only be taken apart here.
 pub(crate) fn field_text<'a>(fields: &[&'a str], at: usize, field: Field) -> Result<&'a str, Unread>
     ensures { MatchResult result (λ text. (at < length fields.now) × (text.now ≡ slice_index_or (texts fields.now) at [])) (λ u. FieldWrong (texts fields.now) at field u) }
 {

@@ -23,6 +23,7 @@ impl Division {
         if all == 0 {
             return 0;
         }
+        // No more than the amount, so the cast fits; `try_from` would have an error that nothing can meet.
         (u128::from(self.amount) * part / all) as u64
     }
 }
@@ -32,6 +33,7 @@ pub(crate) fn with_sign_of(total: i64, amount: u64) -> i64
     requires { amount ≤ greatest_total + 1 }
     ensures { result ≡ with_sign_of total amount }
 {
+    // As in `quota`, the cast fits.
     let cents = amount as i64;
     if total < 0 { -cents } else { cents }
 }

@@ -70,24 +70,25 @@ impl<R: DealingRule> SharingRule for R {
         items: &[T],
         out: &mut [i64],
     ) -> Result<(), ShareFault> {
-        share_by::<R::DealtBy, T>(total, items, out)
+        share_by(self, total, items, out)
     }
 }
 
-/// Shares `total` among `items` as a dealer deals amounts, with the rule's own sentence.
-pub fn share_by<D: Dealer, T: Weighted>(
+/// Shares `total` among `items` by a rule that deals, with the rule's own sentence.
+pub fn share_by<R: DealingRule, T: Weighted>(
+    _rule: &R,
     total: i64,
     items: &[T],
     out: &mut [i64],
 ) -> Result<(), ShareFault>
-    ensures answers { result ≡ answer (judged D.Dealer.greatest (length out.old) total (map T.Weighted.weight items.now)) }
-    ensures leaves { out.new ≡ left_in (judged D.Dealer.greatest (length out.old) total (map T.Weighted.weight items.now)) (either_sign D.Dealer.shares total (map T.Weighted.weight items.now)) out.old }
-    ensures says { OnOk result (D.Dealer.Sentence total (map T.Weighted.weight items.now) out.new) }
+    ensures answers { result ≡ answer (judged R.DealtBy.greatest (length out.old) total (map T.Weighted.weight items.now)) }
+    ensures leaves { out.new ≡ left_in (judged R.DealtBy.greatest (length out.old) total (map T.Weighted.weight items.now)) (either_sign R.DealtBy.shares total (map T.Weighted.weight items.now)) out.old }
+    ensures says { OnOk result (R.DealtBy.Sentence total (map T.Weighted.weight items.now) out.new) }
 {
     let room = out.len();
-    let all = judge(D::greatest(), room, total, items)?;
+    let all = judge(R::DealtBy::greatest(), room, total, items)?;
     let amount = total.unsigned_abs();
-    let dealer = D::begin(Division { amount, all }, items);
+    let dealer = R::DealtBy::begin(Division { amount, all }, items);
     deal_out(dealer, total, items, out);
     Ok(())
 }

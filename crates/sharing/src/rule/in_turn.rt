@@ -63,6 +63,7 @@ fn floors<T: Weighted>(division: &Division, items: &[T]) -> u64
     ensures value { result ≡ sum_by (floor_share division.now.amount (map T.Weighted.weight items.now)) (map T.Weighted.weight items.now) }
     ensures bound { result ≤ division.now.amount }
 {
+    // `map` and `sum` were tried: their closure sees one weight, and not that it is within the sum of all.
     let mut given: u64 = 0;
     for item in items {
         given += division.quota(u128::from(item.weight()));
