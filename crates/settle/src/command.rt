@@ -1,10 +1,11 @@
 //! The command language: fields separated by single spaces, the first of them the command's name.
 mod fields;
 
-ghost use Rattle.std.specs.Prelude.{◌≡◌, ℕ, List, [], IfOk, codes, MatchResult, slice_index_or};
+ghost use Rattle.std.specs.Prelude.{◌≡◌, ℕ, ◌<◌, ◌≤◌, List, [], length, IfOk, codes, MatchResult, slice_index_or};
 ghost use Rattle.std.specs.List.{join_with_byte};
 ghost use Rattle.settle.specs.Grammar.{texts, Asks, Wrong};
-ghost use Rattle.settle.specs.declared.command.Unread.TheVariants.{NotText, NoMemory};
+ghost use Rattle.settle.specs.declared.command.Command.TheVariants.{Report};
+ghost use Rattle.settle.specs.declared.command.Unread.TheVariants.{NotText, Surplus, NoMemory};
 
 use crate::command::fields::{Flag, Word, field_text, read, read_rest};
 use charges::{Asked, NamedCharge};
@@ -153,8 +154,10 @@ fn split_fields<'a>(heap: Global, line: &'a str) -> Result<Vec<&'a str>, AllocEr
     line.split(' ').collect(heap)
 }
 
+/// The command that the fields are; a `tally` takes no memory beyond them, and is refused for one too many alone.
 fn read_fields(heap: Global, fields: &[&str]) -> Result<Command, Unread>
-    ensures { MatchResult result (λ c. Asks (texts fields.now) c) (λ u. Wrong (texts fields.now) u) }
+    ensures is { MatchResult result (λ c. Asks (texts fields.now) c) (λ u. Wrong (texts fields.now) u) }
+    ensures bare { slice_index_or (texts fields.now) 0 [] ≡ codes "tally" → MatchResult result (λ c. (c ≡ Report) × (length fields.now ≤ 1)) (λ u. (u ≡ Surplus 1) × (1 < length fields.now)) }
 {
     let field = Field::Command;
     match field_text(fields, 0, field)? {
